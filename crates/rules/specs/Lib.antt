@@ -1,0 +1,20 @@
+-- Document 01's rules, in its order. Read them from the top, with the document beside them.
+pub mod Words
+pub mod Names
+pub mod Records
+pub mod Fields
+pub mod Shape
+pub mod Check
+pub mod Trees
+pub mod Build
+pub mod List
+pub mod State
+pub mod Values
+pub mod Start
+pub mod Ready
+pub mod Step
+pub mod Run
+pub mod Undo
+pub mod Lights
+pub mod Trace
+pub mod Bench
