@@ -1,6 +1,6 @@
 -- A choice by a test, and both answers of a test at once. Assumes nothing.
 use mathlib.Core.Path.{_≡_, refl}
-use mathlib.Core.Bool.{Bool, true, false, _&&_, _||_, not}
+use mathlib.Core.Bool.{Bool, true, false, _&&_}
 use Rattle.rules.specs.Words.{if_then_else_}
 
 -- to show something, show it where the test holds and where it fails

@@ -1,15 +1,15 @@
 -- "Bench cases": P1 to P12 as one table under a single claim, which the checker computes from the rules. Each row is the input as the
 -- document writes it and what the document says comes out of it. Assumes nothing.
-use Prim.Native.Nat.{ℕ, zero, suc, _+_, _-_, _*_}
+use Prim.Native.Nat.{ℕ, _+_, _-_, _*_}
 use mathlib.Core.Path.{_≡_, refl}
-use mathlib.Core.Bool.{Bool, true, false, _&&_, not}
+use mathlib.Core.Bool.{Bool, true, _&&_, not}
 use mathlib.Core.List.{List, [], _∷_, _++_, map}
 use lib.Dec.{eqb}
 use lib.ListN.{length, take, getD, replicate}
 use lib.IntN.{ℤ, pos, negsuc}
-use Rattle.rules.specs.Words.{if_then_else_, each, first, tally, mask, values, changed, written, Answer, Test, judge}
-use Rattle.rules.specs.Names.{LENGTH, FIELD, COUNT, SHAPE, NOT-READY, TURN, STATION, SKIP, SET, IF, FI, WHILE, OD, AWAIT, END, variables, max-stations, max-list, max-steps}
-use Rattle.rules.specs.Records.{Pick, record-from, record-at, word-bytes, list-record-at}
+use Rattle.rules.specs.Words.{if_then_else_, each, first, tally, mask, values, changed, written, judge}
+use Rattle.rules.specs.Names.{LENGTH, FIELD, SHAPE, NOT-READY, TURN, STATION, SKIP, SET, IF, FI, WHILE, OD, AWAIT, END, variables, max-stations, max-list}
+use Rattle.rules.specs.Records.{record-from, record-at, word-bytes, list-record-at}
 use Rattle.rules.specs.Fields.{rules-of, fields-right}
 use Rattle.rules.specs.Shape.{stride, wrong-at, walked, well-shaped, too-deep-at}
 use Rattle.rules.specs.Check.{check, wrong-length, field-place, station-count, depth-place}

@@ -1,10 +1,9 @@
 -- "The built-in list", and BUILD. These are definitions.
-use Prim.Native.Nat.{ℕ, zero, suc, _+_, _*_}
-use mathlib.Core.Bool.{Bool}
+use Prim.Native.Nat.{ℕ, suc, _+_, _*_}
 use mathlib.Core.List.{List, [], _∷_, _++_, map}
 use lib.Dec.{eqb, ltb}
 use lib.ListN.{length}
-use Rattle.rules.specs.Words.{if_then_else_, written, Answer, Test, _refuses_at_, judge}
+use Rattle.rules.specs.Words.{if_then_else_, written, Test, _refuses_at_, judge}
 use Rattle.rules.specs.Names.{SKIP, INIT, STOP, ROOM, no-station}
 use Rattle.rules.specs.Records.{Record, ListRecord, list-record-bytes}
 use Rattle.rules.specs.Trees.{Statements, nothing, skip, assign, branch, loop, await, stations-of, initial-part, size}

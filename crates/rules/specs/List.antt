@@ -1,12 +1,12 @@
 -- "A list is sound when …", clause by clause, of any bytes whatever. These are definitions.
-use Prim.Native.Nat.{ℕ, suc, _+_, _-_, _%_, _/_}
-use mathlib.Core.Bool.{Bool, true, false, _&&_, _||_, not}
+use Prim.Native.Nat.{ℕ, suc, _+_, _-_, _%_}
+use mathlib.Core.Bool.{Bool, _&&_, _||_, not}
 use mathlib.Core.List.{List, [], _∷_}
 use lib.Dec.{eqb, leb, ltb}
 use lib.ListN.{length}
 use Rattle.rules.specs.Words.{if_then_else_, among, each, first}
 use Rattle.rules.specs.Names.{SKIP, SET, IF, WHILE, AWAIT, INIT, STOP, max-list, max-stations, no-station}
-use Rattle.rules.specs.Records.{Record, ListRecord, list-record-at, list-count}
+use Rattle.rules.specs.Records.{Record, list-record-at, list-count}
 use Rattle.rules.specs.Fields.{fields-right}
 
 -- the list's n: the number of INIT records that it opens with

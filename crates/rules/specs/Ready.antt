@@ -6,7 +6,7 @@ use lib.Dec.{eqb}
 use lib.Signed.{leZ}
 use Rattle.rules.specs.Words.{each}
 use Rattle.rules.specs.Names.{AWAIT, STOP}
-use Rattle.rules.specs.Records.{Record, ListRecord, list-record-at}
+use Rattle.rules.specs.Records.{ListRecord, list-record-at}
 use Rattle.rules.specs.Values.{holds}
 use Rattle.rules.specs.State.{State, position, priority}
 

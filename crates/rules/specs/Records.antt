@@ -1,5 +1,5 @@
 -- Records, as their bytes spell them. Past the end of the bytes everything is zero. These are definitions.
-use Prim.Native.Nat.{ℕ, suc, _+_, _*_, _/_, _%_}
+use Prim.Native.Nat.{ℕ, _+_, _*_, _/_, _%_}
 use mathlib.Core.List.{List, [], _∷_, _++_}
 use lib.ListN.{length, getD}
 use Rattle.rules.specs.Words.{values}

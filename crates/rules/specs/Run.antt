@@ -1,6 +1,6 @@
 -- RUN: single steps until the first refusal, the end of the picks or the most-steps number. These are definitions.
 use Prim.Native.Nat.{ℕ, zero, suc, _/_, _%_, min}
-use mathlib.Core.Bool.{Bool, not}
+use mathlib.Core.Bool.{not}
 use mathlib.Core.List.{List, [], _∷_}
 use lib.Dec.{eqb}
 use lib.ListN.{length}
@@ -9,7 +9,7 @@ use Rattle.rules.specs.Names.{LENGTH, LIST, STATE}
 use Rattle.rules.specs.Records.{pick-at}
 use Rattle.rules.specs.List.{sound-list}
 use Rattle.rules.specs.State.{State, sound-state}
-use Rattle.rules.specs.Step.{Stepped, step}
+use Rattle.rules.specs.Step.{step}
 
 -- "answers the state, the steps taken and the refusal or 0", and what the log then holds
 pub record Ran : Type 0 where

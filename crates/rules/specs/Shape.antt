@@ -1,6 +1,6 @@
 -- SHAPE and DEPTH: a walk over the kinds of a file's records, from the first to the last, that keeps what is open.
 -- These are definitions.
-use Prim.Native.Nat.{ℕ, suc, _-_, _+_}
+use Prim.Native.Nat.{ℕ, suc, _-_}
 use mathlib.Core.Bool.{Bool, true, false, _&&_, not}
 use mathlib.Core.List.{List, [], _∷_}
 use lib.Dec.{eqb, leb}

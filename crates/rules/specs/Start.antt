@@ -1,10 +1,10 @@
 -- START. These are definitions.
-use Prim.Native.Nat.{ℕ, zero, suc, _+_, _-_, _*_}
+use Prim.Native.Nat.{ℕ, zero, suc, _-_, _*_}
 use mathlib.Core.Bool.{Bool, not, _||_}
 use mathlib.Core.List.{List, [], _∷_, _++_, map}
 use lib.Dec.{eqb, leb, ltb}
 use lib.ListN.{length, getD, replicate}
-use lib.IntN.{ℤ, pos}
+use lib.IntN.{pos}
 use Rattle.rules.specs.Words.{if_then_else_, each, values, written, Test, _refuses_at_, refusal}
 use Rattle.rules.specs.Names.{LIST, RESET, ROOM, variables, max-stations}
 use Rattle.rules.specs.Records.{list-record-at}

@@ -1,7 +1,7 @@
 -- One step: SKIP, SET, one test, or an AWAIT with its body; and FAIR's charge. These are definitions.
 use Prim.Native.Nat.{ℕ, zero, suc, _+_, _*_}
 use mathlib.Core.Bool.{Bool, true, false, not}
-use mathlib.Core.List.{List, [], _∷_, _++_}
+use mathlib.Core.List.{List, [], _∷_}
 use lib.Dec.{eqb, leb, ltb}
 use lib.ListN.{length, set}
 use lib.IntN.{ℤ, pos, _-ℤ_}

@@ -1,0 +1,13 @@
+pub mod Written
+pub mod Parts
+pub mod Records
+pub mod Backward
+pub mod Forward
+pub mod Stations
+pub mod Sought
+pub mod Depth
+pub mod Counts
+pub mod Whole
+pub mod Answer
+pub mod Frauds
+pub mod Only

@@ -1,0 +1,3 @@
+pub mod Among
+pub mod Written
+pub mod Passes

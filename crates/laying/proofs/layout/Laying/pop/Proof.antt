@@ -1,0 +1,19 @@
+-- `laying::layout::Laying::pop` meets its contract: `less` gives the place, and `one_less` the number of open parts.
+-- Assumes nothing.
+use borrow.Author.Needs.{needs}
+use Rattle.laying.specs.Layout.{popped}
+use Rattle.laying.proofs.layout.Laying.pop.Statement.{statement}
+use Rattle.laying.proofs.layout.Laying.pop.Tie as tie
+
+less-requires : tie.Need-less-requires
+less-requires c κs = search needs
+
+one-less-requires : tie.Need-one-less-requires
+one-less-requires c κs = search needs
+
+returns : tie.Need-returns
+unfolding popped
+returns c = rw (c .before .less .ensures, c .one-less .ensures)
+
+pub pop-spec : {M : Type 1} → statement M
+pop-spec = tie.close (tie.spec less-requires one-less-requires returns)

@@ -1,0 +1,10 @@
+pub mod Along
+pub mod Lengths
+pub mod Standing
+pub mod Bytes
+pub mod Right
+pub mod Sound
+pub mod Steps
+pub mod Stations
+pub mod Targets
+pub mod Whole

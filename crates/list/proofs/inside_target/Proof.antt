@@ -1,0 +1,16 @@
+-- `list::inside_target` meets its contract, by what `inside` answers.
+-- Assumes nothing.
+use borrow.Author.Needs.{needs}
+use Rattle.list.specs.Given.{inside-target-with}
+use Rattle.list.proofs.inside_target.Statement.{statement}
+use Rattle.list.proofs.inside_target.Tie as tie
+
+inside-requires : tie.Need-inside-requires
+inside-requires c κs = search needs
+
+returns : tie.Need-returns
+unfolding inside-target-with
+returns c = rw (c .inside .ensures)
+
+pub inside-target-spec : {M : Type 1} → statement M
+inside-target-spec = tie.close (tie.spec inside-requires returns)

@@ -1,0 +1,10 @@
+pub mod Kind
+pub mod Among
+pub mod Nested
+pub mod Turn
+pub mod Walk
+pub mod File
+pub mod Open
+pub mod Stations
+pub mod Tests
+pub mod Only

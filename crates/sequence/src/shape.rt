@@ -1,0 +1,168 @@
+// SHAPE: the parts of a file, each read from the record after the one that opens it.
+ghost use mathlib.Core.Path.{_≡_};
+ghost use mathlib.Core.List.{[]};
+ghost use Rattle.rules.specs.Check.{kinds};
+ghost use Rattle.sequence.specs.Reading.{opened, grown, closed, stride-of, reading, shape-of};
+use record::Record;
+
+// An open list of statements: the kind that closes it, whether it stands in an AWAIT body, and whether it has a statement yet.
+pub struct Part {
+    pub close: u8,
+    pub body: bool,
+    pub begun: bool,
+}
+
+// Where a record takes the reading of a part.
+pub enum Stride {
+    // On, in the same list or in the one that takes its place.
+    On(Part),
+    // Into the list that the record opens.
+    Into(Part),
+    // Out of the part, which the record closes.
+    Out,
+    // Off: nothing that follows mends it.
+    Off,
+}
+
+// What reading a part finds.
+pub enum Read {
+    // The record at this place closes the part.
+    Closed(usize),
+    // The record at this place is the first after which nothing is well shaped.
+    Wrong(usize),
+    // The records ran out: true where nothing but the part itself is open, and it has a statement.
+    Short(bool),
+}
+
+// The shape of a file.
+pub enum Shape {
+    // It is well shaped.
+    Whole,
+    // It is not. The place is that of the first record after which nothing is well shaped, or the number of records where the file is
+    // unfinished.
+    Broken(usize),
+}
+
+impl Part {
+    // A list with no statement yet.
+    pub fn opened(close: u8, body: bool) -> Part
+        ensures { λ r. ⌜ r ≡ opened close body ⌝ }
+    {
+        Part {
+            close,
+            body,
+            begun: false,
+        }
+    }
+
+    // The same list with a statement more.
+    pub fn grown(self) -> Part
+        ensures { λ r. ⌜ r ≡ grown self ⌝ }
+    {
+        Part {
+            close: self.close,
+            body: self.body,
+            begun: true,
+        }
+    }
+
+    // Where the record that closes the list takes the reading: STATION begins the next station, and ELSE the other list.
+    pub fn closed(self) -> Stride
+        ensures { λ r. ⌜ r ≡ closed self ⌝ }
+    {
+        if self.close == Record::STATION {
+            Stride::On(Part::opened(Record::STATION, false))
+        } else if self.close == Record::ELSE {
+            Stride::On(Part::opened(Record::FI, self.body))
+        } else {
+            Stride::Out
+        }
+    }
+
+    // Where a record of this kind takes the reading.
+    pub fn stride(self, kind: u8) -> Stride
+        ensures { λ r. ⌜ r ≡ stride-of self kind ⌝ }
+    {
+        if kind == Record::SKIP || kind == Record::SET {
+            Stride::On(self.grown())
+        } else if kind == Record::IF {
+            Stride::Into(Part::opened(Record::ELSE, self.body))
+        } else if kind == Record::WHILE && !self.body {
+            Stride::Into(Part::opened(Record::OD, false))
+        } else if kind == Record::AWAIT && !self.body {
+            Stride::Into(Part::opened(Record::END, true))
+        } else if kind == self.close && self.begun {
+            self.closed()
+        } else {
+            Stride::Off
+        }
+    }
+}
+
+// What reading the records of a slice finds, the first of which stands in this part. A part that a record opens is read as a part of
+// its own, from the record after it.
+pub fn read_part(s: &[u8], part: Part) -> Read
+    ensures { λ r. ⌜ r ≡ reading part [] (kinds (now (s .entry))) ⌝ }
+{
+    let mut part = part;
+    let mut at: usize = 0;
+    while at < s.len() / 8 {
+        let next = at + 1;
+        match part.stride(s[8 * at]) {
+            Stride::On(same) => {
+                part = same;
+                at = next;
+            }
+            Stride::Into(inner) => match read_part(&s[8 * next..], inner) {
+                Read::Closed(place) => {
+                    part = part.grown();
+                    at = next + place + 1;
+                }
+                Read::Wrong(place) => {
+                    return Read::Wrong(next + place);
+                }
+                Read::Short(_) => {
+                    return Read::Short(false);
+                }
+            },
+            Stride::Out => {
+                return Read::Closed(at);
+            }
+            Stride::Off => {
+                return Read::Wrong(at);
+            }
+        }
+    }
+    Read::Short(part.begun)
+}
+
+// The shape of a file: SET records, which are its initial part, and then its stations.
+pub fn read_file(file: &[u8]) -> Shape
+    ensures { λ r. ⌜ r ≡ shape-of (kinds (now (file .entry))) ⌝ }
+{
+    let count = file.len() / 8;
+    let mut at: usize = 0;
+    while at < count {
+        let kind = file[8 * at];
+        if kind == Record::STATION {
+            let next = at + 1;
+            return match read_part(&file[8 * next..], Part::opened(Record::STATION, false)) {
+                // Nothing is open around a station, so a record that closed it would be wrong.
+                Read::Closed(place) => Shape::Broken(next + place),
+                Read::Wrong(place) => Shape::Broken(next + place),
+                Read::Short(finished) => {
+                    if finished {
+                        Shape::Whole
+                    } else {
+                        Shape::Broken(count)
+                    }
+                }
+            };
+        }
+        if kind != Record::SET {
+            return Shape::Broken(at);
+        }
+        at += 1;
+    }
+    Shape::Broken(count)
+}

@@ -1,0 +1,7 @@
+pub mod Made
+pub mod Taken
+pub mod Continued
+pub mod Placed
+pub mod Deep
+pub mod Checked
+pub mod Meant
