@@ -328,11 +328,11 @@ find-branch r u v rest k hu hv hr x p d h =
     let y2 : Sought = seek-records (flat v) y1 in
     let a0 = passed-one x p (h .place) (h .whiles-length) (h .places-length) in
     let a1 : Passed (suc (size u)) lu x y1 p =
-        passed-then {n = 1} {q = suc p} {l = []} (omega arith) (omega arith) refl a0
-        (hu (on x) (suc p) (suc d) (ahead-then u x (on x) p (suc p) 1 [] a0 (suc d) (omega arith) (omega (arith, h .depth)) (h .fits .1) (omega (arith, h .small)) (omega (arith, h .few, n)))) in
+    passed-then {n = 1} {q = suc p} {l = []} (omega arith) (omega arith) refl a0
+    (hu (on x) (suc p) (suc d) (ahead-then u x (on x) p (suc p) 1 [] a0 (suc d) (omega arith) (omega (arith, h .depth)) (h .fits .1) (omega (arith, h .small)) (omega (arith, h .few, n)))) in
     let a2 : Passed (suc (size u) + size v) (lu ++ lv) x y2 p =
-        passed-then {n = suc (size u)} {q = at-v} (omega arith) refl refl a1
-        (hv y1 at-v (suc d) (ahead-then v x y1 p at-v (suc (size u)) lu a1 (suc d) (omega arith) (omega (arith, h .depth)) (h .fits .2) (omega (arith, h .small)) (omega (arith, h .few, n)))) in
+    passed-then {n = suc (size u)} {q = at-v} (omega arith) refl refl a1
+    (hv y1 at-v (suc d) (ahead-then v x y1 p at-v (suc (size u)) lu a1 (suc d) (omega arith) (omega (arith, h .depth)) (h .fits .2) (omega (arith, h .small)) (omega (arith, h .few, n)))) in
     let m : length (lu ++ lv) ≡ length lu + length lv = simp length-append in
     rw (branch-chain u v rest r x, seek-if x (omega (arith, h .place, h .small)) r k, seek-else y1, seek-fi y2)
     (passed-then {n = suc (size u) + size v} {q = at-rest} (omega arith) (omega arith) (sym (append-assoc lu lv lr)) a2
@@ -348,8 +348,8 @@ find-await r u rest k hu hr x p d h =
     let y1 : Sought = seek-records (flat u) (on x) in
     let a0 = passed-one x p (h .place) (h .whiles-length) (h .places-length) in
     let a1 : Passed (suc (size u)) lu x y1 p =
-        passed-then {n = 1} {q = suc p} {l = []} (omega arith) (omega arith) refl a0
-        (hu (on x) (suc p) (suc d) (ahead-then u x (on x) p (suc p) 1 [] a0 (suc d) (omega arith) (omega (arith, h .depth)) (h .fits .1) (omega (arith, h .small)) (omega (arith, h .few, n)))) in
+    passed-then {n = 1} {q = suc p} {l = []} (omega arith) (omega arith) refl a0
+    (hu (on x) (suc p) (suc d) (ahead-then u x (on x) p (suc p) 1 [] a0 (suc d) (omega arith) (omega (arith, h .depth)) (h .fits .1) (omega (arith, h .small)) (omega (arith, h .few, n)))) in
     rw (part-chain u rest r (bare END 0) x, seek-await x (omega (arith, h .place, h .small)) r k, seek-end y1)
     (passed-then {n = suc (size u)} {m = size rest} {q = at-rest} (omega arith) (omega arith) refl a1
     (hr y1 at-rest d (ahead-then rest x y1 p at-rest (suc (size u)) lu a1 d (omega arith) (h .depth) (h .fits .2) (omega (arith, h .small)) (omega (arith, h .few, n)))))

@@ -29,8 +29,8 @@ seek-stations (t ∷ stations) x p (a-station some proper c) f e d small few g h
     let a0 = passed-one x p e g h in
     let y : Sought = seek-records (flat t) (on x) in
     let a1 : Passed (suc (size t)) l x y p =
-        passed-then {n = 1} {q = suc p} {l = []} (omega arith) (omega arith) refl a0
-        (find-all proper (on x) (suc p) 0 (ahead-then t x (on x) p (suc p) 1 [] a0 0 (omega arith) (omega (arith, d)) (f .0) (omega arith) (omega (arith, n)))) in
+    passed-then {n = 1} {q = suc p} {l = []} (omega arith) (omega arith) refl a0
+    (find-all proper (on x) (suc p) 0 (ahead-then t x (on x) p (suc p) 1 [] a0 0 (omega arith) (omega (arith, d)) (f .0) (omega arith) (omega (arith, n)))) in
     rw (first-chain (bare STATION 0) (flat t ++ flat-stations stations) x, seek-station x (omega (arith, e)), seek-append (flat t) (flat-stations stations) (on x))
     (passed-then {n = suc (size t)} {q = suc p + size t} (omega arith) refl refl a1
     (seek-stations stations y (suc p + size t) c (f .1) (a1 .place ∙ omega arith) (a1 .depth ∙ d) (omega arith) (omega (arith, a1 .found, n)) (a1 .whiles-length) (a1 .places-length)))

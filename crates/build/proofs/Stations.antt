@@ -241,7 +241,7 @@ inits-all starts before zero es room = refl
 inits-all starts before (suc j) es room =
     let e : suc j - 1 ≡ j = omega arith in
     let l : (values (lay-init starts) (suc j)) ++ es ≡ values (lay-init starts) j ++ (lay-init starts j ∷ es) =
-        ap (λ (xs : List ListRecord). xs ++ es) (values-suc (lay-init starts) j) ∙ append-assoc (values (lay-init starts) j) (lay-init starts j ∷ []) es in
+    ap (λ (xs : List ListRecord). xs ++ es) (values-suc (lay-init starts) j) ∙ append-assoc (values (lay-init starts) j) (lay-init starts j ∷ []) es in
     rw (e, record-before before j (lay-init starts j) es (omega arith), inits-all starts before j (lay-init starts j ∷ es) (omega arith)) (ap (λ (xs : List ListRecord). written before 0 (bytes-of xs)) (sym l))
 
 -- where the stations start is where the array says, so these are the rules' INIT records
@@ -252,9 +252,11 @@ unfolding values inits starts-of
 inits-are f j p [] h = refl
 inits-are f j p (x ∷ stations) h =
     let e : f 0 ≡ listed (bare INIT j) j 0 p 0 = rw (add-zero j) at (h 0 (omega arith)) in
-    rw (e,
-        inits-are (λ k. f (suc k)) (suc j) (suc (p + size x)) stations
-        (λ k l. let a : j + suc k ≡ suc j + k = omega arith in rw a at (h (suc k) (omega arith))))
+    rw (
+      e,
+      inits-are (λ k. f (suc k)) (suc j) (suc (p + size x)) stations
+          (λ k l. let a : j + suc k ≡ suc j + k = omega arith in rw a at (h (suc k) (omega arith))),
+    )
 
 -- the whole layout, where the loops were found: the buffer then holds the rules' list
 module _ (places : List ℕ) (initial : List Record) (stations : List Statements) (before : List ℕ) (sets : Sets initial)

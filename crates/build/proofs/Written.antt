@@ -32,8 +32,13 @@ written-beside buffer xs ys at h =
     let l : length (take n buffer) ≡ n = simp length-take (omega arith) in
     let k : at ≤ length (take n buffer) = omega arith in
     let s : n + length ys ≡ at + length (xs ++ ys) = simp length-append (omega arith) in
-    rw (take-append-le at (take n buffer) (ys ++ drop (n + length ys) buffer) k, take-take at n buffer (omega arith),
-        drop-at (take n buffer) (ys ++ drop (n + length ys) buffer) n l, s, append-assoc)
+    rw (
+      take-append-le at (take n buffer) (ys ++ drop (n + length ys) buffer) k,
+      take-take at n buffer (omega arith),
+      drop-at (take n buffer) (ys ++ drop (n + length ys) buffer) n l,
+      s,
+      append-assoc,
+    )
 
 pub bytes-of-append : (ds es : List ListRecord) → bytes-of (ds ++ es) ≡ bytes-of ds ++ bytes-of es
 unfolding bytes-of

@@ -91,7 +91,7 @@ returns-3 c =
     let a = accepted-as file _ (d .before .before .before .before .before .check .ensures) (d .before .before .before .if1 .left) in
     let n : d .before .before .station-count .result ≡ length (stations-of file) = d .before .before .station-count .ensures ∙ sym (stations-counted file a) in
     let t : 2 * d .before .before .station-count .result + d .before .steps .result ≡ length (list-records file) =
-        omega (arith, total-is file a, d .before .steps .ensures, d .before .before .station-count .ensures) in
+    omega (arith, total-is file a, d .before .steps .ensures, d .before .before .station-count .ensures) in
     let room : 16 * length (list-records file) ≤ length list = omega (arith, t, d .if2 .left) in
     let l = rw (t, n) at (c .before .before .lay-out .ensures) in
     rw (t, l, laid-out-is file a list room) (sym (build-done file a list room))
