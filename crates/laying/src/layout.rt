@@ -1,7 +1,7 @@
 // Laying out a list. The records of the file are read from the last to the first, and the records of the list are laid from its end to
 // its start, so that the step that comes next is always known. Only a loop's last step leads back: its WHILE's place is looked up.
 ghost use mathlib.Core.Path.{_≡_};
-ghost use Prim.Native.Nat.{_+_, _-_};
+ghost use Prim.Native.Nat.{_-_};
 ghost use lib.ListN.{getD};
 ghost use Rattle.record.specs.View.{as-record, as-list-record};
 ghost use Rattle.rules.specs.Build.{bare, listed as listedOf};

@@ -5,7 +5,6 @@ ghost use Rattle.rules.specs.Records.{records};
 ghost use Rattle.laying.specs.Layout.{lay-record, lay-records, lay-inits, laid-out, step-count};
 ghost use Rattle.record.specs.View.{as-record};
 use crate::layout::Laying;
-use record::ListRecord;
 use record::Record;
 
 mod layout;

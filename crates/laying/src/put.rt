@@ -1,6 +1,5 @@
 // Writing a record of the list.
 ghost use mathlib.Core.Path.{_≡_};
-ghost use Prim.Native.Nat.{_+_, _*_};
 ghost use Rattle.rules.specs.Records.{list-record-bytes};
 ghost use Rattle.record.specs.View.{as-list-record};
 ghost use Rattle.laying.specs.Layout.{put-at};
