@@ -1,0 +1,4 @@
+pub mod Order
+pub mod Computed
+pub mod Whole
+pub mod Frauds

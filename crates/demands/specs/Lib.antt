@@ -1,0 +1,3 @@
+pub mod Computation
+pub mod Order
+pub mod Demands

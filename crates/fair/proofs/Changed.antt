@@ -1,0 +1,39 @@
+-- A list whose first n entries are changed by their place. Assumes nothing.
+use mathlib.Core.Path.{_≡_, refl, ap}
+use mathlib.Core.List.{List, [], _∷_}
+use Prim.Native.Nat.{ℕ, zero, suc, _≤_, _<_}
+use native.Mathlib.Nat.{not-suc-le-zero, le-of-suc-le-suc}
+use lib.ListN.{length, getD}
+use Rattle.rules.specs.Words.{changed}
+
+module _ {A : Type 0} where
+  pub length-changed : (f : ℕ → A → A) (n : ℕ) (xs : List A) → length (changed f n xs) ≡ length xs
+  unfolding changed
+  length-changed f zero xs = refl
+  length-changed f (suc n) [] = refl
+  length-changed f (suc n) (x ∷ xs) = ap suc (length-changed (λ i. f (suc i)) n xs)
+
+  pub changed-at : (f : ℕ → A → A) (n : ℕ) (xs : List A) (j : ℕ) (d : A) → j < n → j < length xs
+      → getD (changed f n xs) j d ≡ f j (getD xs j d)
+  unfolding changed
+  changed-at f zero xs j d l h = absurd (not-suc-le-zero l)
+  changed-at f (suc n) [] j d l h = absurd (not-suc-le-zero h)
+  changed-at f (suc n) (x ∷ xs) zero d l h = refl
+  changed-at f (suc n) (x ∷ xs) (suc j) d l h =
+      changed-at (λ i. f (suc i)) n xs j d (le-of-suc-le-suc l) (le-of-suc-le-suc h)
+
+  pub changed-past : (f : ℕ → A → A) (n : ℕ) (xs : List A) (j : ℕ) (d : A) → n ≤ j → getD (changed f n xs) j d ≡ getD xs j d
+  unfolding changed
+  changed-past f zero xs j d l = refl
+  changed-past f (suc n) [] j d l = refl
+  changed-past f (suc n) (x ∷ xs) zero d l = absurd (not-suc-le-zero l)
+  changed-past f (suc n) (x ∷ xs) (suc j) d l = changed-past (λ i. f (suc i)) n xs j d (le-of-suc-le-suc l)
+
+  -- a changed entry has whatever its change gives it, and so does nothing, where the list is too short to have that entry
+  pub changed-has : (P : A → Type 0) (f : ℕ → A → A) (n : ℕ) (xs : List A) (j : ℕ) (d : A) → j < n
+      → P d → P (f j (getD xs j d)) → P (getD (changed f n xs) j d)
+  unfolding changed
+  changed-has P f zero xs j d l e h = absurd (not-suc-le-zero l)
+  changed-has P f (suc n) [] j d l e h = e
+  changed-has P f (suc n) (x ∷ xs) zero d l e h = h
+  changed-has P f (suc n) (x ∷ xs) (suc j) d l e h = changed-has P (λ i. f (suc i)) n xs j d (le-of-suc-le-suc l) e h

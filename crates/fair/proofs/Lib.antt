@@ -1,0 +1,15 @@
+pub mod Order
+pub mod Counts
+pub mod Invariant
+pub mod Changed
+pub mod Charge
+pub mod Tests
+pub mod Meaning
+pub mod Taken
+pub mod Deadlock
+pub mod Targets
+pub mod Kept
+pub mod Begun
+pub mod Held
+pub mod Withdrawn
+pub mod Relation

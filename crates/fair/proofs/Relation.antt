@@ -1,0 +1,71 @@
+-- The steps taken are FAIR's, and FAIR allows no other outcome of a pick. Assumes nothing.
+use mathlib.Core.Path.{_≡_, refl, _∙_}
+use mathlib.Core.Logic.{inl, inr}
+use mathlib.Core.Bool.{Bool, false≢true}
+use mathlib.Core.List.{List}
+use Prim.Native.Nat.{ℕ, _≤_, _<_}
+use native.Mathlib.Omega.{arith}
+use borrow.Author.Tests.{eqb-true, eqb-false, eq-eqb, ne-eqb}
+use lib.Dec.{eqb}
+use lib.ListN.{length}
+use lib.IntN.{ℤ, pos}
+use Rattle.rules.specs.Records.{Pick}
+use Rattle.rules.specs.State.{State, priority}
+use Rattle.rules.specs.Ready.{ready}
+use Rattle.rules.specs.Step.{charged, charge, stepped}
+use Rattle.laws.proofs.Choice.{by-test}
+use Rattle.fair.specs.Fair.{Update}
+use Rattle.fair.specs.Relation.{StepFair, StepOnly, InvKept}
+use Rattle.fair.proofs.Order.{low-loses}
+use Rattle.fair.proofs.Invariant.{Falls, inv-kept}
+use Rattle.fair.proofs.Changed.{changed-at}
+use Rattle.fair.proofs.Meaning.{sound-means, sound-list-means}
+use Rattle.fair.proofs.Taken.{step-taken, step-state}
+
+module _ (list : List ℕ) (s : State) (p : Pick) (long : s .n ≤ length (s .priorities)) where
+  charge-at : (j : ℕ) → j < s .n
+      → priority (stepped list s p) j ≡ charged (eqb j (p .station)) (ready list s j) (p .reset) (priority s j)
+  unfolding stepped charge
+  charge-at j l =
+      changed-at (λ k. charged (eqb k (p .station)) (ready list s k) (p .reset)) (s .n) (s .priorities) j (pos 0) l (omega arith)
+
+  updated : p .station < s .n → p .reset ≤ s .b
+      → Update (s .n) (ready list s) (s .b) (priority s) (priority (stepped list s p)) (p .station) (p .reset)
+  updated there r =
+      record {
+        bounded = r;
+        picked = charge-at (p .station) there ∙ rw (eq-eqb (p .station) (p .station) refl);
+        charged = λ j l d e. charge-at j l ∙ rw (ne-eqb j (p .station) d, e);
+        stays = λ j l d e. charge-at j l ∙ rw (ne-eqb j (p .station) d, e);
+      }
+
+pub step-fair : StepFair
+step-fair list s log p held h =
+    let (can, c, r) = step-taken list s log p .0 h in
+    let long : s .n ≤ length (s .priorities) =
+    omega (arith, held .priorities, sound-list-means list (can .of-list) .few-stations, sound-means list s .0 (can .of-state) .of-list) in
+    rw (step-state list s log p h) (c, updated list s p long (c .station) r)
+
+pub step-only : StepOnly
+step-only list s p z′ long u j l =
+    rw (charge-at list s p long j l)
+    (by-test (eqb j (p .station))
+    (λ e. rw (e, eqb-true j (p .station) e) (u .picked))
+    (λ e. by-test (ready list s j)
+    (λ r. rw (e, r) (u .charged j l (eqb-false j (p .station) e) r))
+    (λ r. rw (e, r) (u .stays j l (eqb-false j (p .station) e) r))))
+
+-- UPDATE lets the numbers fall as the invariant allows
+update-falls : (n : ℕ) (ready : ℕ → Bool) (b : ℕ) (z z′ : ℕ → ℤ) (i reset : ℕ) → Update n ready b z z′ i reset → Falls n ready z z′ i
+update-falls n ready b z z′ i reset u =
+    record {
+      picked = λ k. rw (u .picked);
+      others = λ j k l h. by-test (eqb j i)
+          (λ e. absurd (false≢true (rw (eqb-true j i e, u .picked) at h)))
+          (λ e. by-test (ready j)
+          (λ r. inl (r, rw (u .charged j l (eqb-false j i e) r, low-loses) at h))
+          (λ r. inr (rw (u .stays j l (eqb-false j i e) r) at h)));
+    }
+
+pub inv-kept-by-fair : InvKept
+inv-kept-by-fair n ready b z z′ i reset c u = inv-kept n ready z z′ i c (update-falls n ready b z z′ i reset u)

@@ -1,0 +1,130 @@
+-- What every history keeps: the last state answered is the top of the stack, START and STEP made the stack, and the log opens with its
+-- records. Assumes nothing.
+use mathlib.Core.Path.{_≡_, refl, sym, subst, _∙_}
+use mathlib.Core.List.{List, [], _∷_, _++_, append-assoc}
+use mathlib.Core.Option.{Option, none, some}
+use Prim.Native.Nat.{ℕ, zero, suc, _+_}
+use borrow.Author.Tests.{eqb-true}
+use lib.Dec.{eqb}
+use lib.ListN.{length, drop}
+use Rattle.rules.specs.Words.{if_then_else_, written}
+use Rattle.rules.specs.Records.{Pick, pick-at, pick-bytes}
+use Rattle.rules.specs.State.{State}
+use Rattle.rules.specs.Start.{start, start-records}
+use Rattle.rules.specs.Step.{step}
+use Rattle.rules.specs.Undo.{undo}
+use Rattle.laws.proofs.Choice.{by-test}
+use Rattle.fair.proofs.Taken.{step-refused}
+use Rattle.history.specs.History.{Call, CHECK, BUILD, START, STEP, RUN, UNDO, LIGHTS, Steps, begun, taken, top, spelled, pushed, popped, Now, stepped-on, single-steps, called, calls-from, history}
+use Rattle.history.specs.Back.{Made, by-start, by-step, below}
+use Rattle.history.proofs.Log.{written-behind}
+use Rattle.history.proofs.Calls.{run-single}
+use Rattle.history.proofs.Answers.{start-taken, start-refused, step-left, step-leaves}
+use Rattle.history.proofs.Stack.{stack-facts}
+use Rattle.history.proofs.Undone.{undo-made}
+
+-- of a state, a log and the steps that stand
+pub record Follows (list : List ℕ) (s : State) (log : List ℕ) (steps : Steps) : Type 0 where
+  pub last : s ≡ top steps
+  pub made : Made list steps
+  pub rest : List ℕ
+  pub logged : log ≡ spelled steps ++ rest
+
+-- the same where a start stands
+abbrev Follows-if : List ℕ → State → List ℕ → Option Steps → Type 0
+Follows-if list s log none = Unit
+Follows-if list s log (some steps) = Follows list s log steps
+
+abbrev Follows-now : List ℕ → Now → Type 0
+Follows-now list now = Follows-if list (now .state) (now .log) (now .standing)
+
+step-follows : (list : List ℕ) (s : State) (log : List ℕ) (p : Pick) → step list s log p .number ≡ 0 → (standing : Option Steps)
+    → Follows-if list s log standing
+    → Follows-if list (step list s log p .state) (step list s log p .log) (pushed standing p (step list s log p .state))
+unfolding spelled
+step-follows list s log p h none f = tt
+step-follows list s log p h (some steps) f =
+    let m = rw (f .last) at h in
+    let at = stack-facts list (f .made) .bytes in
+    record {
+      last = refl;
+      made = rw (f .last) (by-step p log (f .made) m);
+      rest = drop 2 (f .rest);
+      logged = step-left list s log p h ∙ rw (f .last, f .logged, append-assoc) (written-behind (spelled steps) (f .rest) (pick-bytes p) _ at);
+    }
+
+stepped-on-follows : (list : List ℕ) (now : Now) (p : Pick) → Follows-now list now → Follows-now list (stepped-on list now p)
+unfolding stepped-on
+stepped-on-follows list now p f =
+    let a = step list (now .state) (now .log) p in
+    by-test (eqb (a .number) 0)
+    (λ y. rw y (step-follows list (now .state) (now .log) p (eqb-true _ 0 y) (now .standing) f))
+    (λ y. rw (y, step-refused list (now .state) (now .log) p y, step-leaves list (now .state) (now .log) p y) f)
+
+single-steps-follow : (list picks : List ℕ) (i count : ℕ) (now : Now) → Follows-now list now
+    → Follows-now list (single-steps list picks i count now)
+unfolding single-steps
+single-steps-follow list picks i zero now f = f
+single-steps-follow list picks i (suc count) now f =
+    single-steps-follow list picks (suc i) count (stepped-on list now (pick-at picks i)) (stepped-on-follows list now (pick-at picks i) f)
+
+start-follows : (list : List ℕ) (b : ℕ) (resets log : List ℕ) (h : start list b resets log .number ≡ 0)
+    → Follows list (start list b resets log .state) (start list b resets log .log) (begun resets (start list b resets log .state))
+unfolding spelled written
+start-follows list b resets log h =
+    record {
+      last = refl;
+      made = by-start b resets log h;
+      rest = drop (0 + length (start-records 0 resets)) log;
+      logged = start-taken list b resets log h .left;
+    }
+
+-- undo answers the state below
+pub undo-answers : (list : List ℕ) (s : State) (log : List ℕ) (steps : Steps) → Follows list s log steps → undo list s log ≡ below steps
+undo-answers list s log steps f = rw (f .last, f .logged) (undo-made list (f .made) (f .rest))
+
+made-below : {list : List ℕ} {steps : Steps} {p : Pick} {s : State} → Made list (taken steps p s) → Made list steps
+made-below (by-step p log made h) = made
+
+undo-follows : (list : List ℕ) (s : State) (log : List ℕ) (standing : Option Steps) → Follows-if list s log standing
+    → let a = undo list s log in
+    Follows-if list (a .state) log (if eqb (a .number) 0 then popped standing else standing)
+unfolding spelled
+undo-follows list s log none f = by-test (eqb (undo list s log .number) 0) (λ y. rw y tt) (λ y. rw y tt)
+undo-follows list s log (some (begun resets t)) f =
+    rw (undo-answers list s log (begun resets t) f)
+    (record { last = refl; made = f .made; rest = f .rest; logged = f .logged })
+undo-follows list s log (some (taken steps p t)) f =
+    rw (undo-answers list s log (taken steps p t) f)
+    (record {
+      last = refl;
+      made = made-below (f .made);
+      rest = pick-bytes p ++ f .rest;
+      logged = f .logged ∙ append-assoc (spelled steps) (pick-bytes p) (f .rest);
+    })
+
+called-follows : (list : List ℕ) (now : Now) (c : Call) → Follows-now list now → Follows-now list (called list now c)
+unfolding called
+called-follows list now (CHECK file) f = f
+called-follows list now (BUILD file buffer) f = f
+called-follows list now (START b resets) f =
+    by-test (eqb (start list b resets (now .log) .number) 0)
+    (λ y. rw y (start-follows list b resets (now .log) (eqb-true _ 0 y)))
+    (λ y. rw (y, start-refused list b resets (now .log) y) f)
+called-follows list now (STEP p) f = stepped-on-follows list now p f
+called-follows list now (RUN picks most) f =
+    subst (λ (after : Now). Follows-now list after) (sym (run-single list now picks most .0)) (single-steps-follow list picks 0 _ now f)
+called-follows list now UNDO f = undo-follows list (now .state) (now .log) (now .standing) f
+called-follows list now LIGHTS f = f
+
+calls-follow : (list : List ℕ) (now : Now) (calls : List Call) → Follows-now list now → Follows-now list (calls-from list now calls)
+unfolding calls-from
+calls-follow list now [] f = f
+calls-follow list now (c ∷ calls) f = calls-follow list (called list now c) calls (called-follows list now c f)
+
+pub history-follows : (list : List ℕ) (s : State) (log : List ℕ) (calls : List Call) (steps : Steps)
+    → history list s log calls .standing ≡ some steps
+    → Follows list (history list s log calls .state) (history list s log calls .log) steps
+history-follows list s log calls steps stands =
+    subst (λ (o : Option Steps). Follows-if list (history list s log calls .state) (history list s log calls .log) o) stands
+    (calls-follow list (record { state = s; log = log; standing = none }) calls tt)

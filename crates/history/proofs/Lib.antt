@@ -1,0 +1,11 @@
+pub mod Log
+pub mod Replay
+pub mod Answers
+pub mod Calls
+pub mod Written
+pub mod Stack
+pub mod Undone
+pub mod Follows
+pub mod Back
+pub mod Passed
+pub mod Frauds

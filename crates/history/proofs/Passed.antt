@@ -1,0 +1,105 @@
+-- FAIR's two bounds over standing steps. The second is one potential: a station's priority and the times it was passed over since its last
+-- pick are together at most B, and its priority is above -n. Assumes nothing.
+use mathlib.Core.Path.{_≡_}
+use mathlib.Core.Bool.{Bool, true, false, true≢false}
+use mathlib.Core.List.{List}
+use Prim.Native.Nat.{ℕ, zero, suc, _+_, _-_, _≤_, _<_}
+use native.Mathlib.Nat.{not-suc-le-zero}
+use native.Mathlib.Omega.{arith}
+use borrow.Author.Tests.{leb-true, leb-false, eqb-true, eqb-false}
+use lib.Dec.{eqb}
+use lib.IntN.{ℤ, pos, negsuc, negℤ, predℤ, -ℤ-one}
+use lib.Signed.{leZ}
+use Rattle.rules.specs.Words.{if_then_else_, tally}
+use Rattle.rules.specs.State.{State, priority, few-low}
+use Rattle.rules.specs.Ready.{ready}
+use Rattle.rules.specs.Start.{start}
+use Rattle.rules.specs.Step.{stepped, step}
+use Rattle.laws.proofs.Choice.{by-test}
+use Rattle.fair.specs.Fair.{Update}
+use Rattle.fair.proofs.Charge.{above-low}
+use Rattle.fair.proofs.Meaning.{sound-means}
+use Rattle.fair.proofs.Taken.{step-state}
+use Rattle.fair.proofs.Relation.{step-fair}
+use Rattle.history.specs.History.{Steps, top}
+use Rattle.history.specs.Back.{Made, by-start, by-step}
+use Rattle.history.specs.Passed.{passed-over, Bounded, Throughout, PassedOver}
+use Rattle.history.proofs.Stack.{stack-facts}
+use Rattle.history.proofs.Follows.{history-follows}
+
+-- how far a priority is above -n
+above : ℕ → ℤ → ℕ
+above n (pos a) = a + n
+above n (negsuc a) = n - suc a
+
+above-some : (n : ℕ) (z : ℤ) → leZ z (negℤ (pos n)) ≡ false → 1 ≤ above n z
+unfolding above
+above-some zero (pos a) h = omega (arith, leb-false a 0 h)
+above-some (suc n) (pos a) h = omega arith
+above-some zero (negsuc a) h = absurd (true≢false h)
+above-some (suc n) (negsuc a) h = omega (arith, leb-false n a h)
+
+above-within : (n : ℕ) (z : ℤ) (b : ℕ) → leZ z (pos b) ≡ true → above n z ≤ b + n
+unfolding above
+above-within n (pos a) b h = omega (arith, leb-true a b h)
+above-within n (negsuc a) b h = omega arith
+
+above-pred : (n : ℕ) (z : ℤ) → 1 ≤ above n z → above n (predℤ z) + 1 ≡ above n z
+unfolding above
+above-pred n (pos zero) h = omega arith
+above-pred n (pos (suc a)) h = omega arith
+above-pred n (negsuc a) h = omega arith
+
+-- one step of FAIR's: what the count gains, the priority loses
+module _ (n b : ℕ) (ready : ℕ → Bool) (z z′ : ℕ → ℤ) (i reset : ℕ) (u : Update n ready b z z′ i reset) (j c : ℕ) (l : j < n)
+    (low : leZ (z j) (negℤ (pos n)) ≡ false) (h : c + above n (z j) ≤ b + n) where
+  turn : (if eqb j i then 0 else if ready j then suc c else c) + above n (z′ j) ≤ b + n
+  unfolding above
+  turn =
+      by-test (eqb j i)
+      (λ e. rw (e, eqb-true j i e, u .picked) (omega (arith, u .bounded)))
+      (λ e. by-test (ready j)
+      (λ r. rw (e, r, u .charged j l (eqb-false j i e) r, -ℤ-one) (omega (arith, above-pred n (z j) (above-some n (z j) low))))
+      (λ r. rw (e, r, u .stays j l (eqb-false j i e) r) h))
+
+-- the potential
+module _ (list : List ℕ) (j : ℕ) where
+  potential : {steps : Steps} → Made list steps → j < top steps .n
+      → passed-over list j steps + above (top steps .n) (priority (top steps) j) ≤ top steps .b + top steps .n
+  unfolding passed-over stepped
+  potential (by-start b resets log h) l =
+      let s = start list b resets log .state in
+      let v = sound-means list s .0 (stack-facts list (by-start b resets log h) .sound) in
+      omega (arith, above-within (s .n) (priority s j) (s .b) (v .bounded j l))
+  potential (by-step {steps} p log made h) l =
+      let s = top steps in
+      let after = step list s log p .state in
+      let f = stack-facts list made in
+      let n : after .n ≡ s .n = rw (step-state list s log p h) in
+      let b : after .b ≡ s .b = rw (step-state list s log p h) in
+      let there = rw n at l in
+      rw (n, b)
+      (turn (s .n) (s .b) (ready list s) (priority s) (priority after) (p .station) (p .reset) (step-fair list s log p (f .held) h .1)
+      j (passed-over list j steps) there (above-low s (sound-means list s .0 (f .sound) .few) j there) (potential made there))
+
+few : (s : State) → ((i : ℕ) → i < s .n → few-low s (suc i) ≡ true) → (k : ℕ) → 1 ≤ k → k ≤ s .n
+    → tally (λ j. leZ (priority s j) (negℤ (pos k))) (s .n) + k ≤ s .n
+unfolding few-low
+few s h zero one within = absurd (not-suc-le-zero one)
+few s h (suc i) one within = leb-true _ (s .n) (h i within)
+
+bounded : (list : List ℕ) {steps : Steps} → Made list steps → Bounded list steps
+bounded list {steps} made =
+    let s = top steps in
+    let sound = sound-means list s .0 (stack-facts list made .sound) in
+    record {
+      few-low = few s (sound .few);
+      few-passed = λ j l. omega (arith, potential list j made l, above-some (s .n) (priority s j) (above-low s (sound .few) j l));
+    }
+
+throughout : (list : List ℕ) {steps : Steps} → Made list steps → Throughout (Bounded list) steps
+throughout list (by-start b resets log h) = bounded list (by-start b resets log h)
+throughout list (by-step p log made h) = (bounded list (by-step p log made h), throughout list made)
+
+pub passed-over-bound : PassedOver
+passed-over-bound list s log calls steps stands = throughout list (history-follows list s log calls steps stands .made)

@@ -1,0 +1,9 @@
+pub mod Sequence
+pub mod Determined
+pub mod Bodies
+pub mod Matched
+pub mod Stations
+pub mod Moves
+pub mod Placed
+pub mod Begun
+pub mod Meant

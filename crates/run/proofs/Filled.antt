@@ -1,0 +1,39 @@
+-- An array that is filled from the front: what its first places hold, and a default in the others. Assumes nothing.
+use mathlib.Core.Path.{_≡_, refl, ap}
+use mathlib.Core.List.{List, [], _∷_, _++_, map, append-assoc, append-nil}
+use Prim.Native.Nat.{ℕ, zero, suc, _+_, _-_, _≤_, _<_}
+use native.Mathlib.Omega.{arith}
+use native.Mathlib.Numerals.{add-one}
+use lib.ListN.{length, getD, set, replicate}
+use lib.Seq.{set-at}
+use Rattle.rules.specs.Words.{values}
+use Rattle.laws.proofs.Places.{length-values, values-suc}
+
+module _ {A : Type 0} where
+  abbrev pub filled : (ℕ → A) → A → ℕ → ℕ → List A
+  filled f d size j = values f j ++ replicate (size - j) d
+
+  pub filled-none : (f : ℕ → A) (d : A) (size : ℕ) → replicate (size - 0) d ≡ filled f d size 0
+  unfolding values
+  filled-none f d size = refl
+
+  pub filled-more : (f : ℕ → A) (d : A) (size j : ℕ) → j < size → set (filled f d size j) j (f j) ≡ filled f d size (j + 1)
+  filled-more f d size j within =
+      let left : size - j ≡ suc (size - (j + 1)) = omega arith in
+      rw (left, set-at (values f j) d (replicate (size - (j + 1)) d) (f j) j (length-values f j), add-one, values-suc, append-assoc)
+
+  pub filled-all : (f : ℕ → A) (d : A) (size : ℕ) → filled f d size size ≡ values f size
+  filled-all f d size =
+      let none : size - size ≡ 0 = omega arith in
+      rw (none, append-nil)
+
+  -- what each place of a list holds is the list
+  pub values-getD : (xs : List A) (d : A) → values (λ j. getD xs j d) (length xs) ≡ xs
+  unfolding values
+  values-getD [] d = refl
+  values-getD (x ∷ xs) d = ap (λ (rest : List A). x ∷ rest) (values-getD xs d)
+
+pub map-values : {A B : Type 0} (g : A → B) (f : ℕ → A) (n : ℕ) → map g (values f n) ≡ values (λ j. g (f j)) n
+unfolding values
+map-values {A} {B} g f zero = refl
+map-values {A} {B} g f (suc n) = ap (λ (rest : List B). g (f 0) ∷ rest) (map-values g (λ j. f (suc j)) n)

@@ -1,0 +1,9 @@
+pub mod Signed
+pub mod Filled
+pub mod Clauses
+pub mod Changes
+pub mod Picks
+pub mod Written
+pub mod Runs
+pub mod Replays
+pub mod Only

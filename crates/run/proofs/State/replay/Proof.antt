@@ -1,0 +1,137 @@
+use Rattle.rules.specs.Records.{pick-at}
+use Rattle.run.specs.Picked.{Going, Picked}
+-- `run::State::replay` meets its contract. The loop's invariant: the state is sound, the log has the records to come, and those replayed
+-- answer what the whole does. The measure is what is left of the count.
+-- Assumes nothing.
+use Rattle.run.proofs.Replays.{replay-taken, replay-refused}
+use Rattle.run.proofs.Picks.{picked-sound, picked-m}
+use Rattle.run.specs.View.{as-state}
+use Rattle.rules.specs.Undo as rules
+use Rattle.rules.specs.State.{sound-state}
+use Rattle.rules.specs.Names.{max-steps}
+use lib.ListN.{length}
+use native.Mathlib.Omega.{arith}
+use mathlib.Core.Bool.{true}
+use mathlib.Core.Path.{_≡_, refl, sym, ap, _∙_}
+use Prim.Native.Nat.{_+_, _*_, _≤_}
+use borrow.Author.Needs.{needs}
+use Rattle.run.proofs.State.replay.Statement.{statement}
+use Rattle.run.proofs.State.replay.Tie as tie
+use Rattle.run.proofs.State.replay.Reads as reads
+use Rattle.run.proofs.State.replay.Lts as lts
+use Rattle.run.proofs.State.pick.Reads as pick-reads
+
+abbrev Inv-loop : tie.InvT-loop
+Inv-loop list log i₀ count state₀ left₀ i state left =
+    (sound-state list (as-state state) ≡ true)
+    × (state .m + left ≤ max-steps)
+    × (2 * (i + left) ≤ length log)
+    × (rules.replay list log i₀ count (as-state state₀) ≡ rules.replay list log i left (as-state state))
+
+abbrev μ-loop : tie.MeasureT-loop
+μ-loop list log i₀ count state₀ left₀ i state left = left
+
+-- src/undo.rt:93:9
+loop-holds : tie.Need-loop-holds Inv-loop μ-loop
+loop-holds c =
+    let pre = c .before .before .pre in
+    (pre .1, pre .2, pre .3, refl)
+
+-- the state is sound, and has a step left
+going : (c : tie.After-shared-slice-known4 Inv-loop μ-loop) →
+    Going (c .before .before .before .before .before .before .args .list .now) (as-state (c .before .before .before .loop .state))
+going c =
+    let turn = c .before .before in
+    let inv = turn .before .loop .inv in
+    record {
+      of-list = turn .before .before .before .before .pre .0;
+      of-state = inv .0;
+      steps-left = omega (arith, inv .1, turn .loop-test .taken);
+    }
+
+-- src/undo.rt:94:22
+mul-at : tie.Need-mul-at Inv-loop μ-loop
+mul-at c = search needs
+
+-- src/undo.rt:95:42
+shared-slice-read-pick : tie.Need-shared-slice-read-pick Inv-loop μ-loop
+shared-slice-read-pick c = search needs
+
+-- src/undo.rt:95:55
+add-pick : tie.Need-add-pick Inv-loop μ-loop
+add-pick c = search needs
+
+-- src/undo.rt:95:51
+shared-slice-read-pick-2 : tie.Need-shared-slice-read-pick-2 Inv-loop μ-loop
+shared-slice-read-pick-2 c = search needs
+
+-- src/undo.rt:95:17
+pick-requires : tie.Need-pick-requires Inv-loop μ-loop
+pick-requires c κs = going c
+
+-- src/undo.rt:98:17
+returns : tie.Need-returns Inv-loop μ-loop
+returns c =
+    let done = c .before .before .before in
+    let turn = done .before .before .before in
+    let a = turn .before .before .before .before .args in
+    let at = turn .before .loop in
+    sym (at .inv .3
+    ∙ rw (← done .pick .ensures) at (replay-refused (a .list .now) (a .log .now) (at .i) (as-state (at .state)) (at .left)
+    (turn .loop-test .taken) (λ e. c .if1 .taken (ap (λ (a : Picked). a .number) (done .pick .ensures) ∙ e))))
+
+-- src/undo.rt:103:13
+add-i : tie.Need-add-i Inv-loop μ-loop
+add-i c = search needs
+
+-- src/undo.rt:104:13
+sub-left : tie.Need-sub-left Inv-loop μ-loop
+sub-left c = search needs
+
+-- src/undo.rt:93:9
+loop-less : tie.Need-loop-less Inv-loop μ-loop
+loop-less c = search needs
+
+-- src/undo.rt:93:9
+loop-again : tie.Need-loop-again Inv-loop μ-loop
+loop-again c =
+    let done = c .before .before .before in
+    let turn = done .before .before .before in
+    let a = turn .before .before .before .before .args in
+    let at = turn .before .loop in
+    let s = as-state (at .state) in
+    let p = pick-at (a .log .now) (at .i) in
+    let taken = sym (ap (λ (a : Picked). a .number) (done .pick .ensures)) ∙ c .if1 .left in
+    let m = rw (← done .pick .ensures) at (picked-m (a .list .now) s p taken) in
+    (
+      rw (← done .pick .ensures) at (picked-sound (a .list .now) s p (going (done .before))),
+      omega (arith, at .inv .1),
+      omega (arith, at .inv .2),
+      at .inv .3 ∙ rw (← done .pick .ensures) at (replay-taken (a .list .now) (a .log .now) (at .i) s (at .left) (turn .loop-test .taken) taken),
+    )
+
+-- src/undo.rt:87:5
+returns-2 : tie.Need-returns-2 Inv-loop μ-loop
+unfolding rules.replay
+returns-2 c =
+    let none : c .before .loop .left ≡ 0 = omega arith in
+    rw (c .before .loop .inv .3, none)
+
+pub replay-spec : {M : Type 1} → statement M
+replay-spec =
+    tie.close
+    (tie.spec
+    Inv-loop
+    μ-loop
+    loop-holds
+    mul-at
+    shared-slice-read-pick
+    add-pick
+    shared-slice-read-pick-2
+    pick-requires
+    returns
+    add-i
+    sub-left
+    loop-less
+    loop-again
+    returns-2)

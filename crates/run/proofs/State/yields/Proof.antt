@@ -1,0 +1,36 @@
+-- `run::State::yields` meets its contract.
+-- Assumes nothing.
+use mir.ValLaws.{toZ-ofZ}
+use mir.Syntax.{w16}
+use borrow.Author.Needs.{needs}
+use Rattle.run.proofs.State.yields.Statement.{statement}
+use Rattle.run.proofs.State.yields.Tie as tie
+use Rattle.run.proofs.State.yields.Reads as reads
+use Rattle.run.proofs.State.yields.Lts as lts
+use Rattle.run.proofs.State.priority.Reads as priority-reads
+
+-- src/ready.rt:105:20
+priority-requires : tie.Need-priority-requires
+priority-requires c κs = search needs
+
+-- src/ready.rt:105:40
+priority-requires-2 : tie.Need-priority-requires-2
+priority-requires-2 c κs = search needs
+
+-- src/ready.rt:105:13
+returns : tie.Need-returns
+returns c =
+    rw (
+      c .before .before .if1 .taken,
+      toZ-ofZ w16 _ (record { sfits = c .before .priority .ok }),
+      toZ-ofZ w16 _ (record { sfits = c .priority2 .ok }),
+      c .before .priority .ensures,
+      c .priority2 .ensures,
+    )
+
+-- src/ready.rt:101:5
+returns-2 : tie.Need-returns-2
+returns-2 c = search needs
+
+pub yields-spec : {M : Type 1} → statement M
+yields-spec = tie.close (tie.spec priority-requires priority-requires-2 returns returns-2)

@@ -1,0 +1,74 @@
+-- Bytes written to a log, one after another. Assumes nothing.
+use mathlib.Core.Path.{_≡_, refl, _∙_}
+use mathlib.Core.List.{List, [], _∷_, _++_, append-assoc}
+use Prim.Native.Nat.{ℕ, zero, suc, _+_, _*_, _≤_, _<_}
+use native.Mathlib.Nat.{add-zero, zero-add, add-suc, suc-add, not-suc-le-zero, le-of-suc-le-suc}
+use native.Mathlib.Numerals.{add-one}
+use native.Mathlib.Omega.{arith}
+use lib.ListN.{length, getD, take, set, length-append}
+use lib.Seq.{sets, sets-eq, take-suc, length-take-le}
+use Rattle.rules.specs.Words.{values, written}
+use Rattle.rules.specs.Records.{pick-at}
+use Rattle.rules.specs.Start.{start-records}
+use Rattle.laws.proofs.Places.{values-same}
+use Rattle.run.proofs.Filled.{values-getD}
+
+-- a buffer that is long enough has the bytes set one by one
+pub written-sets : (log : List ℕ) (at : ℕ) (bytes : List ℕ) → at + length bytes ≤ length log → written log at bytes ≡ sets log at bytes
+unfolding written
+written-sets log at bytes room = rw (sets-eq bytes log at room, append-assoc)
+
+-- a record of two bytes
+pub written-record : (log : List ℕ) (at a b : ℕ) → at + 2 ≤ length log → set (set log at a) (at + 1) b ≡ written log at (a ∷ b ∷ [])
+written-record log at a b room = rw (written-sets log at (a ∷ b ∷ []) room, add-one)
+
+-- bytes after bytes
+sets-append : (log : List ℕ) (at : ℕ) (bytes more : List ℕ) → sets log at (bytes ++ more) ≡ sets (sets log at bytes) (at + length bytes) more
+sets-append log at [] more = rw add-zero
+sets-append log at (x ∷ bytes) more = rw (add-suc, ← suc-add) (sets-append (set log at x) (suc at) bytes more)
+
+-- one start record more
+start-records-snoc : (j : ℕ) (resets : List ℕ) (reset : ℕ)
+    → start-records j (resets ++ (reset ∷ [])) ≡ start-records j resets ++ ((j + length resets) ∷ reset ∷ [])
+unfolding start-records
+start-records-snoc j [] reset = rw add-zero
+start-records-snoc j (x ∷ resets) reset = rw (add-suc, ← suc-add, start-records-snoc (suc j) resets reset)
+
+pub length-starts : (j : ℕ) (resets : List ℕ) → length (start-records j resets) ≡ 2 * length resets
+unfolding start-records
+length-starts j [] = refl
+length-starts j (x ∷ resets) = let h = length-starts (suc j) resets in omega arith
+
+-- one turn of a loop that writes the start records
+pub starts-more : (log resets : List ℕ) (j : ℕ) → j < length resets → 2 * length resets ≤ length log
+    → set (set (written log 0 (start-records 0 (take j resets))) (2 * j) j) (2 * j + 1) (getD resets j 0)
+    ≡ written log 0 (start-records 0 (take (j + 1) resets))
+starts-more log resets j within room =
+    let before = start-records 0 (take j resets) in
+    let so-far : length before ≡ 2 * j = rw (length-starts 0 (take j resets), length-take-le j resets (omega arith)) in
+    let next : start-records 0 (take (j + 1) resets) ≡ before ++ (j ∷ getD resets j 0 ∷ []) =
+    rw (add-one, take-suc resets j 0 within, start-records-snoc, length-take-le j resets (omega arith), zero-add) in
+    rw (
+      next,
+      written-sets log 0 before (omega arith),
+      written-sets log 0 (before ++ (j ∷ getD resets j 0 ∷ [])) (simp (length-append, so-far) (omega arith)),
+      sets-append,
+      zero-add,
+      so-far,
+      add-one,
+    )
+
+-- the resets are read back from the start records
+reset-at : (k : ℕ) (resets rest : List ℕ) (j : ℕ) → j < length resets → getD (start-records k resets ++ rest) (2 * j + 1) 0 ≡ getD resets j 0
+unfolding start-records
+reset-at k [] rest j within = absurd (not-suc-le-zero within)
+reset-at k (x ∷ resets) rest zero within = refl
+reset-at k (x ∷ resets) rest (suc j) within =
+    let e : 2 * suc j + 1 ≡ suc (suc (2 * j + 1)) = omega arith in
+    rw e (reset-at (suc k) resets rest j (le-of-suc-le-suc within))
+
+pub resets-back : (log resets : List ℕ)
+    → values (λ j. pick-at (written log 0 (start-records 0 resets)) j .reset) (length resets) ≡ resets
+unfolding written
+resets-back log resets =
+    values-same _ _ (length resets) (λ j within. reset-at 0 resets _ j within) ∙ values-getD resets 0

@@ -1,0 +1,53 @@
+-- The states and answers of the code, seen as those of the rules. An answer of the rules has the log's bytes too. These are definitions.
+use Prim.Native.Nat.{ℕ}
+use mathlib.Core.List.{List}
+use lib.IntN.{ℤ}
+use Rattle.rules.specs.State as rules-state
+use Rattle.rules.specs.Start as rules-start
+use Rattle.rules.specs.Step as rules-step
+use Rattle.rules.specs.Run as rules-run
+use Rattle.rules.specs.Undo as rules-undo
+use Rattle.run.specs.Picked.{Picked}
+use Rattle.run.specs.declared.State.{State}
+use Rattle.run.specs.declared.Started.{Started}
+use Rattle.run.specs.declared.Stepped.{Stepped}
+use Rattle.run.specs.declared.Ran.{Ran}
+use Rattle.run.specs.declared.Undone.{Undone}
+
+abbrev pub as-state : State → rules-state.State
+as-state s =
+    record {
+      vars = s .vars;
+      positions = s .positions;
+      priorities = s .priorities;
+      n = s .n;
+      b = s .b;
+      m = s .m;
+    }
+
+-- the same state with other priorities
+abbrev pub with-priorities : State → List ℤ → State
+with-priorities s priorities =
+    record {
+      vars = s .vars;
+      positions = s .positions;
+      priorities = priorities;
+      n = s .n;
+      b = s .b;
+      m = s .m;
+    }
+
+abbrev pub as-started : Started → List ℕ → rules-start.Started
+as-started r log = record { number = r .number; state = as-state (r .state); log = log }
+
+abbrev pub as-picked : Stepped → Picked
+as-picked r = record { number = r .number; state = as-state (r .state) }
+
+abbrev pub as-stepped : Stepped → List ℕ → rules-step.Stepped
+as-stepped r log = record { number = r .number; state = as-state (r .state); log = log }
+
+abbrev pub as-ran : Ran → List ℕ → rules-run.Ran
+as-ran r log = record { number = r .number; state = as-state (r .state); steps = r .steps; log = log }
+
+abbrev pub as-undone : Undone → rules-undo.Undone
+as-undone r = record { number = r .number; state = as-state (r .state) }

@@ -1,0 +1,50 @@
+// FAIR's charge: what a step does to the priorities.
+ghost use mathlib.Core.Path.{_≡_};
+ghost use mathlib.Core.Bool.{false};
+ghost use Prim.Native.Nat.{ℕ, _≤_, _<_};
+ghost use mir.Syntax.{w16};
+ghost use mir.Val.{SFits};
+ghost use lib.Dec.{eqb};
+ghost use lib.ListN.{getD};
+ghost use lib.IntN.{pos, negℤ, _-ℤ_};
+ghost use lib.Signed.{leZ};
+ghost use Rattle.rules.specs.Words.{changed};
+ghost use Rattle.rules.specs.Names.{max-stations};
+ghost use Rattle.rules.specs.State.{priority};
+ghost use Rattle.rules.specs.Step.{charged};
+ghost use Rattle.run.specs.View.{as-state, with-priorities};
+use crate::State;
+
+// One station's priority after a step: the reset if it was picked, one less if it was ready, else the same.
+fn charged_one(p: i16, picked: bool, ready: bool, reset: u8) -> i16
+    requires { ⌜ SFits w16 (p -ℤ pos 1) ⌝ }
+    ensures { λ r. ⌜ r ≡ charged picked ready reset p ⌝ }
+{
+    if picked {
+        return reset as i16;
+    }
+    if ready {
+        return p - 1;
+    }
+    p
+}
+
+impl State {
+    // The state with its n priorities charged for a pick, by the readiness of the stations before the step. No priority is so low that it
+    // cannot lose 1.
+    pub(crate) fn charged(mut self, all: [bool; 8], station: u8, reset: u8) -> State
+        requires { ⌜ (self .n ≤ max-stations) × ((j : ℕ) → j < self .n → leZ (priority (as-state self) j) (negℤ (pos (self .n))) ≡ false) ⌝ }
+        ensures { λ r. ⌜ r ≡ with-priorities self (changed (λ j. charged (eqb j station) (getD all j false) reset) (self .n) (self .priorities)) ⌝ }
+    {
+        let n = self.n as usize;
+        let picked = station as usize;
+        let mut j: usize = 0;
+        while j < n {
+            let p = self.priorities[j];
+            let q = charged_one(p, j == picked, all[j], reset);
+            self.priorities[j] = q;
+            j += 1;
+        }
+        self
+    }
+}

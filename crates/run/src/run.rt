@@ -1,0 +1,80 @@
+// RUN: single steps until the first refusal, the end of the picks or the most-steps number.
+ghost use mathlib.Core.Path.{_≡_};
+ghost use mathlib.Core.Bool.{true};
+ghost use Prim.Native.Nat.{_*_, _≤_, min};
+ghost use lib.ListN.{length};
+ghost use Rattle.rules.specs.List.{sound-list};
+ghost use Rattle.rules.specs.State.{sound-state};
+ghost use Rattle.rules.specs.Run.{steps-from, run};
+ghost use Rattle.run.specs.View.{as-state, as-ran};
+use crate::Ran;
+use crate::State;
+use record::Record;
+
+// The smaller of two numbers.
+fn least(a: usize, b: usize) -> usize
+    ensures { λ r. ⌜ r ≡ min a b ⌝ }
+{
+    if a < b {
+        return a;
+    }
+    b
+}
+
+impl State {
+    // The steps of the picks, two bytes each, until one is refused, the picks end or the most-steps number is reached. The list and the
+    // state are tested once.
+    pub fn run(self, list: &[u8], log: &mut [u8], picks: &[u8], most: usize) -> Ran
+        ensures { λ r. ⌜ as-ran r (now (log .exit)) ≡ run (now (list .entry)) (as-state self) (now (log .entry)) (now (picks .entry)) most ⌝ }
+    {
+        if picks.len() % 2 == 1 {
+            return Ran {
+                number: Record::LENGTH,
+                state: self,
+                steps: 0,
+            };
+        }
+        if !list::sound(list) {
+            return Ran {
+                number: Record::LIST,
+                state: self,
+                steps: 0,
+            };
+        }
+        if !self.sound(list) {
+            return Ran {
+                number: Record::STATE,
+                state: self,
+                steps: 0,
+            };
+        }
+        self.steps(list, log, picks, least(most, picks.len() / 2))
+    }
+
+    // So many steps, by the first of the picks, on a list and a state that are sound.
+    fn steps(self, list: &[u8], log: &mut [u8], picks: &[u8], count: usize) -> Ran
+        requires { ⌜ (sound-list (now list) ≡ true) × (sound-state (now list) (as-state self) ≡ true) × (2 * count ≤ length (now picks)) ⌝ }
+        ensures { λ r. ⌜ as-ran r (now (log .exit)) ≡ steps-from (now (list .entry)) (now (picks .entry)) 0 count (as-state self) (now (log .entry)) ⌝ }
+    {
+        let mut state = self;
+        let mut steps: usize = 0;
+        while steps < count {
+            let at = 2 * steps;
+            let taken = state.advance(list, log, picks[at], picks[at + 1]);
+            state = taken.state;
+            if taken.number != 0 {
+                return Ran {
+                    number: taken.number,
+                    state,
+                    steps,
+                };
+            }
+            steps += 1;
+        }
+        Ran {
+            number: 0,
+            state,
+            steps,
+        }
+    }
+}

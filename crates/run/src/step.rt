@@ -1,0 +1,119 @@
+// One step: the tests of a pick, the state after it, and its record in the log.
+ghost use mathlib.Core.Path.{_≡_};
+ghost use Prim.Native.Nat.{_<_};
+ghost use mathlib.Core.Bool.{true};
+ghost use Rattle.rules.specs.Words.{values};
+ghost use Rattle.rules.specs.Names.{max-stations};
+ghost use Rattle.rules.specs.List.{sound-list};
+ghost use Rattle.rules.specs.State.{sound-state};
+ghost use Rattle.rules.specs.Ready.{ready};
+ghost use Rattle.rules.specs.Step.{stepped, step};
+ghost use Rattle.run.specs.Picked.{Going, picked};
+ghost use Rattle.run.specs.View.{as-state, as-picked, as-stepped};
+use crate::MAX_STEPS;
+use crate::State;
+use crate::Stepped;
+use record::Record;
+
+impl State {
+    // One step, by the pick of a station and its reset. A step taken writes its record to the log; a refusal writes nothing.
+    pub fn step(self, list: &[u8], log: &mut [u8], station: u8, reset: u8) -> Stepped
+        ensures { λ r. ⌜ as-stepped r (now (log .exit)) ≡ step (now (list .entry)) (as-state self) (now (log .entry)) (record { station = station; reset = reset }) ⌝ }
+    {
+        if !list::sound(list) {
+            return Stepped {
+                number: Record::LIST,
+                state: self,
+            };
+        }
+        if !self.sound(list) {
+            return Stepped {
+                number: Record::STATE,
+                state: self,
+            };
+        }
+        self.advance(list, log, station, reset)
+    }
+
+    // One step, on a list and a state that are sound.
+    pub(crate) fn advance(self, list: &[u8], log: &mut [u8], station: u8, reset: u8) -> Stepped
+        requires { ⌜ (sound-list (now list) ≡ true) × (sound-state (now list) (as-state self) ≡ true) ⌝ }
+        ensures { λ r. ⌜ as-stepped r (now (log .exit)) ≡ step (now (list .entry)) (as-state self) (now (log .entry)) (record { station = station; reset = reset }) ⌝ }
+    {
+        if self.m == MAX_STEPS {
+            return Stepped {
+                number: Record::FULL,
+                state: self,
+            };
+        }
+        let at = 2 * (self.n as usize + self.m as usize);
+        if log.len() < at + 2 {
+            return Stepped {
+                number: Record::ROOM,
+                state: self,
+            };
+        }
+        let taken = self.pick(list, station, reset);
+        if taken.number != 0 {
+            return taken;
+        }
+        log[at] = station;
+        log[at + 1] = reset;
+        taken
+    }
+
+    // One pick, on a list and a state that are sound, with a step left: 0 and the state after the step, or the refusal of tests 10 to 13
+    // and the state given.
+    pub(crate) fn pick(self, list: &[u8], station: u8, reset: u8) -> Stepped
+        requires { ⌜ Going (now list) (as-state self) ⌝ }
+        ensures { λ r. ⌜ as-picked r ≡ picked (now (list .entry)) (as-state self) (record { station = station; reset = reset }) ⌝ }
+    {
+        if self.n <= station {
+            return Stepped {
+                number: Record::COMPONENT,
+                state: self,
+            };
+        }
+        let all = self.readiness(list);
+        let at = station as usize;
+        if !self.ready_of(list, all, at) {
+            return Stepped {
+                number: Record::NOT_READY,
+                state: self,
+            };
+        }
+        if !self.lowest_of(list, all, at) {
+            return Stepped {
+                number: Record::TURN,
+                state: self,
+            };
+        }
+        if self.b < reset {
+            return Stepped {
+                number: Record::RESET,
+                state: self,
+            };
+        }
+        Stepped {
+            number: 0,
+            state: self.stepped(list, all, station, reset),
+        }
+    }
+
+    // The state after the step of a pick, where the readiness of the stations 0 to 7 before it is known.
+    fn stepped(self, list: &[u8], all: [bool; 8], station: u8, reset: u8) -> State
+        requires { ⌜ Going (now list) (as-state self) × (all ≡ values (ready (now list) (as-state self)) max-stations) × (station < self .n) ⌝ }
+        ensures { λ r. ⌜ as-state r ≡ stepped (now (list .entry)) (as-state self) (record { station = station; reset = reset }) ⌝ }
+    {
+        let at = station as usize;
+        let e = self.next_step(list, at);
+        let vars = self.vars;
+        let position = values::step_position(&vars, e);
+        let after = values::step_vars(list, vars, e);
+        let mut next = self.charged(all, station, reset);
+        next.vars = after;
+        next.positions[at] = position;
+        next.m += 1;
+        next
+    }
+}

@@ -1,0 +1,108 @@
+// UNDO: the state reached by replaying all but the last of the standing steps.
+ghost use mathlib.Core.Path.{_≡_};
+ghost use mathlib.Core.Bool.{true, _&&_};
+ghost use Prim.Native.Nat.{_+_, _*_, _≤_};
+ghost use lib.Dec.{eqb, leb};
+ghost use lib.ListN.{length};
+ghost use Rattle.rules.specs.Words.{each};
+ghost use Rattle.rules.specs.Names.{max-steps};
+ghost use Rattle.rules.specs.Records.{pick-at};
+ghost use Rattle.rules.specs.List.{sound-list};
+ghost use Rattle.rules.specs.State.{sound-state};
+ghost use Rattle.rules.specs.Undo.{replay, undo};
+ghost use Rattle.run.specs.View.{as-state, as-undone};
+use crate::State;
+use crate::Undone;
+use crate::begin;
+use record::Record;
+
+// Whether the first n records of a log are start records in their places, with resets of at most b.
+fn starts_right(log: &[u8], n: usize, b: u8) -> bool
+    requires { ⌜ 2 * n ≤ length (now log) ⌝ }
+    ensures { λ r. ⌜ r ≡ each (λ j. eqb (pick-at (now (log .entry)) j .station) j && leb (pick-at (now (log .entry)) j .reset) b) n ⌝ }
+{
+    let mut j: usize = 0;
+    while j < n {
+        let at = 2 * j;
+        if log[at] as usize != j {
+            return false;
+        }
+        if b < log[at + 1] {
+            return false;
+        }
+        j += 1;
+    }
+    true
+}
+
+impl State {
+    // The state before the last step, made anew from the log. The log stays.
+    pub fn undo(self, list: &[u8], log: &[u8]) -> Undone
+        ensures { λ r. ⌜ as-undone r ≡ undo (now (list .entry)) (as-state self) (now (log .entry)) ⌝ }
+    {
+        if !list::sound(list) {
+            return Undone {
+                number: Record::LIST,
+                state: self,
+            };
+        }
+        if !self.sound(list) {
+            return Undone {
+                number: Record::STATE,
+                state: self,
+            };
+        }
+        if self.m == 0 {
+            return Undone {
+                number: Record::EMPTY,
+                state: self,
+            };
+        }
+        let n = self.n as usize;
+        let m = self.m as usize;
+        if log.len() < 2 * (n + m) {
+            return Undone {
+                number: Record::LOG,
+                state: self,
+            };
+        }
+        if !starts_right(log, n, self.b) {
+            return Undone {
+                number: Record::LOG,
+                state: self,
+            };
+        }
+        let back = begin::begun(list, self.b, log).replay(list, log, n, m - 1);
+        if back.number != 0 {
+            return Undone {
+                number: Record::LOG,
+                state: self,
+            };
+        }
+        back
+    }
+
+    // So many steps of a log, from record i on, replayed on a list and a state that are sound: 0 and the state reached, or the refusal of
+    // the first that is refused and the state before it.
+    fn replay(self, list: &[u8], log: &[u8], mut i: usize, count: usize) -> Undone
+        requires { ⌜ (sound-list (now list) ≡ true) × (sound-state (now list) (as-state self) ≡ true) × (self .m + count ≤ max-steps) × (2 * (i + count) ≤ length (now log)) ⌝ }
+        ensures { λ r. ⌜ as-undone r ≡ replay (now (list .entry)) (now (log .entry)) i count (as-state self) ⌝ }
+    {
+        let mut state = self;
+        let mut left = count;
+        while 0 < left {
+            let at = 2 * i;
+            let taken = state.pick(list, log[at], log[at + 1]);
+            state = taken.state;
+            if taken.number != 0 {
+                return Undone {
+                    number: taken.number,
+                    state,
+                };
+            }
+            i += 1;
+            left -= 1;
+        }
+        Undone { number: 0, state }
+    }
+}
