@@ -1,13 +1,13 @@
 -- A list whose first entries are changed by their place, as a loop does it. Assumes nothing.
+use Prim.Native.Nat.{ℕ, zero, suc, _+_, _≤_, _<_}
 use mathlib.Core.Path.{_≡_, refl, ap}
 use mathlib.Core.Bool.{Bool, false}
 use mathlib.Core.List.{List, [], _∷_}
-use Prim.Native.Nat.{ℕ, zero, suc, _+_, _≤_, _<_}
-use native.Mathlib.Omega.{arith}
 use native.Mathlib.Numerals.{add-one}
+use native.Mathlib.Omega.{arith}
 use lib.Dec.{eqb}
-use lib.ListN.{getD, set}
 use lib.IntN.{ℤ, pos}
+use lib.ListN.{getD, set}
 use Rattle.rules.specs.Words.{values, changed}
 use Rattle.rules.specs.Names.{max-stations}
 use Rattle.rules.specs.Records.{Pick}
@@ -16,8 +16,8 @@ use Rattle.rules.specs.Ready.{ready}
 use Rattle.rules.specs.Step.{charged, charge}
 use Rattle.laws.proofs.Places.{getD-values}
 use Rattle.fair.proofs.Changed.{changed-past}
-use Rattle.run.specs.declared.State.{State}
 use Rattle.run.specs.View.{with-priorities}
+use Rattle.run.specs.declared.State.{State}
 
 module _ {A : Type 0} where
   changed-suc : (f : ℕ → A → A) (n : ℕ) (xs : List A) (d : A) → set (changed f n xs) n (f n (getD xs n d)) ≡ changed f (suc n) xs
@@ -32,7 +32,7 @@ module _ {A : Type 0} where
   changed-next f n xs d = changed-past f n xs n d (omega arith)
 
   -- the changes need agree only below n
-  pub changed-same : (f g : ℕ → A → A) (n : ℕ) (xs : List A) → ((i : ℕ) → i < n → (x : A) → f i x ≡ g i x) → changed f n xs ≡ changed g n xs
+  changed-same : (f g : ℕ → A → A) (n : ℕ) (xs : List A) → ((i : ℕ) → i < n → (x : A) → f i x ≡ g i x) → changed f n xs ≡ changed g n xs
   unfolding changed
   changed-same f g zero xs same = refl
   changed-same f g (suc n) [] same = refl

@@ -13,7 +13,7 @@ use Rattle.run.specs.declared.Started.{Started}
 use Rattle.run.specs.declared.Stepped.{Stepped}
 use Rattle.run.specs.declared.Ran.{Ran}
 use Rattle.run.specs.declared.Undone.{Undone}
-use Rattle.run.specs.View.{as-state, as-started, as-stepped, as-ran, as-undone}
+use Rattle.run.specs.View.{as-started, as-stepped, as-ran, as-undone}
 
 -- the state that the rules' state is the view of
 abbrev of-state : rules-state.State → State

@@ -1,20 +1,20 @@
 -- One pick on a list and a state that are sound: what is known of the state's numbers, and what the pick keeps. Assumes nothing.
+use Prim.Native.Nat.{ℕ, _+_, _*_, _≤_, _<_}
 use mathlib.Core.Path.{_≡_, refl, sym, _∙_}
 use mathlib.Core.Bool.{true, false}
 use mathlib.Core.List.{List}
-use Prim.Native.Nat.{ℕ, suc, _+_, _*_, _≤_, _<_}
 use native.Mathlib.Omega.{arith}
-use borrow.Author.Tests.{eqb-true, eq-eqb, ne-eqb, le-ltb}
 use lib.Dec.{eqb}
-use lib.ListN.{length}
 use lib.IntN.{pos, negℤ}
 use lib.Signed.{leZ}
+use lib.ListN.{length}
+use borrow.Author.Tests.{eqb-true, eq-eqb, ne-eqb, le-ltb}
 use Rattle.rules.specs.Words.{if_then_else_, judge, refusal, written}
 use Rattle.rules.specs.Names.{max-stations, max-steps}
 use Rattle.rules.specs.Records.{Pick, pick-bytes}
 use Rattle.rules.specs.List.{sound-list}
 use Rattle.rules.specs.State.{State, priority, sound-state}
-use Rattle.rules.specs.Step.{Stepped, pick-tests, step-tests, stepped, step}
+use Rattle.rules.specs.Step.{pick-tests, step-tests, stepped, step}
 use Rattle.laws.proofs.Choice.{by-test}
 use Rattle.fair.proofs.Charge.{above-low}
 use Rattle.fair.proofs.Kept.{stepped-sound}

@@ -1,15 +1,15 @@
 -- The steps of a run, one at a time: what the steps to come answer, counted on from the steps taken. Assumes nothing.
-use mathlib.Core.Path.{_≡_, refl}
+use Prim.Native.Nat.{ℕ, suc, _+_, _-_, _<_}
+use mathlib.Core.Path.{_≡_}
 use mathlib.Core.List.{List}
-use Prim.Native.Nat.{ℕ, zero, suc, _+_, _-_, _<_}
 use native.Mathlib.Numerals.{add-one}
 use native.Mathlib.Omega.{arith}
-use borrow.Author.Tests.{eq-eqb}
 use lib.Dec.{eqb}
+use borrow.Author.Tests.{eq-eqb}
 use Rattle.rules.specs.Words.{refusal}
 use Rattle.rules.specs.Records.{pick-at}
 use Rattle.rules.specs.State.{State}
-use Rattle.rules.specs.Step.{Stepped, step-tests, step}
+use Rattle.rules.specs.Step.{step-tests, step}
 use Rattle.rules.specs.Run.{Ran, one-more, steps-from}
 use Rattle.laws.proofs.Choice.{by-test}
 

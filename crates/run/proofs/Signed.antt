@@ -1,14 +1,14 @@
 -- Priorities as 16-bit numbers. Assumes nothing.
+use Prim.Native.Nat.{ℕ, zero, suc, _≤_}
 use mathlib.Core.Path.{_≡_}
 use mathlib.Core.Bool.{false, true≢false}
-use Prim.Native.Nat.{ℕ, zero, suc, _≤_}
 use native.Mathlib.Omega.{arith}
-use lib.Dec.{lit<}
-use borrow.Author.Tests.{leb-false}
-use lib.IntN.{ℤ, pos, negsuc, negℤ, _-ℤ_, -ℤ-one}
-use lib.Signed.{leZ}
 use mir.Syntax.{w16}
 use mir.Val.{SFits}
+use lib.Dec.{lit<}
+use lib.IntN.{ℤ, pos, negsuc, negℤ, _-ℤ_, -ℤ-one}
+use lib.Signed.{leZ}
+use borrow.Author.Tests.{leb-false}
 use Rattle.rules.specs.Names.{max-stations}
 
 -- the negation of a byte fits
@@ -18,9 +18,7 @@ sfits-neg (suc k) within = record { sfits = omega arith }
 
 -- a priority above -n, with n at most 8, can lose 1
 pub sfits-pred : (n : ℕ) (p : ℤ) → n ≤ max-stations → SFits w16 p → leZ p (negℤ (pos n)) ≡ false → SFits w16 (p -ℤ pos 1)
-sfits-pred zero (pos zero) few fits above = rw -ℤ-one (record { sfits = lit< tt })
-sfits-pred zero (pos (suc a)) few fits above = rw -ℤ-one (record { sfits = omega (arith, fits .sfits) })
+sfits-pred n (pos zero) few fits above = rw -ℤ-one (record { sfits = lit< tt })
+sfits-pred n (pos (suc a)) few fits above = rw -ℤ-one (record { sfits = omega (arith, fits .sfits) })
 sfits-pred zero (negsuc a) few fits above = absurd (true≢false above)
-sfits-pred (suc n) (pos zero) few fits above = rw -ℤ-one (record { sfits = lit< tt })
-sfits-pred (suc n) (pos (suc a)) few fits above = rw -ℤ-one (record { sfits = omega (arith, fits .sfits) })
 sfits-pred (suc n) (negsuc a) few fits above = rw -ℤ-one (record { sfits = omega (arith, leb-false n a above) })

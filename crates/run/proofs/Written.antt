@@ -1,7 +1,7 @@
 -- Bytes written to a log, one after another. Assumes nothing.
+use Prim.Native.Nat.{ℕ, zero, suc, _+_, _*_, _≤_, _<_}
 use mathlib.Core.Path.{_≡_, refl, _∙_}
 use mathlib.Core.List.{List, [], _∷_, _++_, append-assoc}
-use Prim.Native.Nat.{ℕ, zero, suc, _+_, _*_, _≤_, _<_}
 use native.Mathlib.Nat.{add-zero, zero-add, add-suc, suc-add, not-suc-le-zero, le-of-suc-le-suc}
 use native.Mathlib.Numerals.{add-one}
 use native.Mathlib.Omega.{arith}
@@ -14,7 +14,7 @@ use Rattle.laws.proofs.Places.{values-same}
 use Rattle.run.proofs.Filled.{values-getD}
 
 -- a buffer that is long enough has the bytes set one by one
-pub written-sets : (log : List ℕ) (at : ℕ) (bytes : List ℕ) → at + length bytes ≤ length log → written log at bytes ≡ sets log at bytes
+written-sets : (log : List ℕ) (at : ℕ) (bytes : List ℕ) → at + length bytes ≤ length log → written log at bytes ≡ sets log at bytes
 unfolding written
 written-sets log at bytes room = rw (sets-eq bytes log at room, append-assoc)
 
@@ -34,7 +34,7 @@ unfolding start-records
 start-records-snoc j [] reset = rw add-zero
 start-records-snoc j (x ∷ resets) reset = rw (add-suc, ← suc-add, start-records-snoc (suc j) resets reset)
 
-pub length-starts : (j : ℕ) (resets : List ℕ) → length (start-records j resets) ≡ 2 * length resets
+length-starts : (j : ℕ) (resets : List ℕ) → length (start-records j resets) ≡ 2 * length resets
 unfolding start-records
 length-starts j [] = refl
 length-starts j (x ∷ resets) = let h = length-starts (suc j) resets in omega arith

@@ -1,15 +1,17 @@
 -- One pick on a list and a state that are known to be sound, as step, run and undo share it. These are definitions.
+use Prim.Native.Nat.{ℕ, _<_}
 use mathlib.Core.Path.{_≡_}
 use mathlib.Core.Bool.{true}
 use mathlib.Core.List.{List}
-use Prim.Native.Nat.{ℕ, _<_}
 use lib.Dec.{eqb}
-use Rattle.rules.specs.Words.{if_then_else_, refusal}
+use lib.ListN.{take}
+use Rattle.rules.specs.Words.{if_then_else_, Test, refusal}
 use Rattle.rules.specs.Names.{max-steps}
 use Rattle.rules.specs.Records.{Pick}
 use Rattle.rules.specs.List.{sound-list}
 use Rattle.rules.specs.State.{State, sound-state}
 use Rattle.rules.specs.Step.{pick-tests, stepped}
+use Rattle.rules.specs.Undo.{undo-tests}
 
 -- what is known by the time that a pick is judged
 pub record Going (list : List ℕ) (s : State) : Type 0 where
@@ -27,3 +29,7 @@ picked list s p =
     let number = refusal (pick-tests list s p) in
     if eqb number 0 then record { number = 0; state = stepped list s p }
     else record { number = number; state = s }
+
+-- an undo's tests but the last, the replay
+abbrev pub before-replay : List ℕ → State → List ℕ → List Test
+before-replay list s log = take 5 (undo-tests list s log)

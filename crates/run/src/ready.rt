@@ -37,8 +37,7 @@ impl State {
         let e = self.next_step(list, j);
         let own = e.own;
         if own.kind == Record::AWAIT {
-            let vars = self.vars;
-            return !values::holds(&vars, own);
+            return !values::holds(&self.vars, own);
         }
         false
     }

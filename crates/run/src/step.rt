@@ -1,9 +1,10 @@
 // One step: the tests of a pick, the state after it, and its record in the log.
 ghost use mathlib.Core.Path.{_≡_};
 ghost use Prim.Native.Nat.{_<_};
-ghost use mathlib.Core.Bool.{true};
-ghost use Rattle.rules.specs.Words.{values};
-ghost use Rattle.rules.specs.Names.{max-stations};
+ghost use mathlib.Core.Bool.{true, not};
+ghost use mathlib.Core.List.{[], _∷_};
+ghost use Rattle.rules.specs.Words.{values, _refuses_at_, refusal};
+ghost use Rattle.rules.specs.Names.{COMPONENT, NOT-READY, TURN, RESET, max-stations};
 ghost use Rattle.rules.specs.List.{sound-list};
 ghost use Rattle.rules.specs.State.{sound-state};
 ghost use Rattle.rules.specs.Ready.{ready};
@@ -14,6 +15,26 @@ use crate::MAX_STEPS;
 use crate::State;
 use crate::Stepped;
 use record::Record;
+
+// What refuses a pick, of tests 10 to 13 in their order: a station that the list has not, one that is not ready, one that is not lowest, a
+// reset above b. 0 where nothing does.
+fn pick_refusal(unknown: bool, ready: bool, lowest: bool, above: bool) -> u8
+    ensures { λ r. ⌜ r ≡ refusal ((unknown refuses COMPONENT at 0) ∷ (not ready refuses NOT-READY at 0) ∷ (not lowest refuses TURN at 0) ∷ (above refuses RESET at 0) ∷ []) ⌝ }
+{
+    if unknown {
+        return Record::COMPONENT;
+    }
+    if !ready {
+        return Record::NOT_READY;
+    }
+    if !lowest {
+        return Record::TURN;
+    }
+    if above {
+        return Record::RESET;
+    }
+    0
+}
 
 impl State {
     // One step, by the pick of a station and its reset. A step taken writes its record to the log; a refusal writes nothing.
@@ -68,29 +89,14 @@ impl State {
         requires { ⌜ Going (now list) (as-state self) ⌝ }
         ensures { λ r. ⌜ as-picked r ≡ picked (now (list .entry)) (as-state self) (record { station = station; reset = reset }) ⌝ }
     {
-        if self.n <= station {
-            return Stepped {
-                number: Record::COMPONENT,
-                state: self,
-            };
-        }
-        let all = self.readiness(list);
         let at = station as usize;
-        if !self.ready_of(list, all, at) {
+        let all = self.readiness(list);
+        let ready = self.ready_of(list, all, at);
+        let lowest = self.lowest_of(list, all, at);
+        let number = pick_refusal(self.n <= station, ready, lowest, self.b < reset);
+        if number != 0 {
             return Stepped {
-                number: Record::NOT_READY,
-                state: self,
-            };
-        }
-        if !self.lowest_of(list, all, at) {
-            return Stepped {
-                number: Record::TURN,
-                state: self,
-            };
-        }
-        if self.b < reset {
-            return Stepped {
-                number: Record::RESET,
+                number,
                 state: self,
             };
         }
@@ -107,8 +113,8 @@ impl State {
     {
         let at = station as usize;
         let e = self.next_step(list, at);
+        let position = values::step_position(&self.vars, e);
         let vars = self.vars;
-        let position = values::step_position(&vars, e);
         let after = values::step_vars(list, vars, e);
         let mut next = self.charged(all, station, reset);
         next.vars = after;

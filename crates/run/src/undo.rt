@@ -4,12 +4,13 @@ ghost use mathlib.Core.Bool.{true, _&&_};
 ghost use Prim.Native.Nat.{_+_, _*_, _≤_};
 ghost use lib.Dec.{eqb, leb};
 ghost use lib.ListN.{length};
-ghost use Rattle.rules.specs.Words.{each};
+ghost use Rattle.rules.specs.Words.{each, refusal};
 ghost use Rattle.rules.specs.Names.{max-steps};
 ghost use Rattle.rules.specs.Records.{pick-at};
 ghost use Rattle.rules.specs.List.{sound-list};
 ghost use Rattle.rules.specs.State.{sound-state};
 ghost use Rattle.rules.specs.Undo.{replay, undo};
+ghost use Rattle.run.specs.Picked.{before-replay};
 ghost use Rattle.run.specs.View.{as-state, as-undone};
 use crate::State;
 use crate::Undone;
@@ -40,38 +41,15 @@ impl State {
     pub fn undo(self, list: &[u8], log: &[u8]) -> Undone
         ensures { λ r. ⌜ as-undone r ≡ undo (now (list .entry)) (as-state self) (now (log .entry)) ⌝ }
     {
-        if !list::sound(list) {
+        let number = self.undo_refusal(list, log);
+        if number != 0 {
             return Undone {
-                number: Record::LIST,
-                state: self,
-            };
-        }
-        if !self.sound(list) {
-            return Undone {
-                number: Record::STATE,
-                state: self,
-            };
-        }
-        if self.m == 0 {
-            return Undone {
-                number: Record::EMPTY,
+                number,
                 state: self,
             };
         }
         let n = self.n as usize;
         let m = self.m as usize;
-        if log.len() < 2 * (n + m) {
-            return Undone {
-                number: Record::LOG,
-                state: self,
-            };
-        }
-        if !starts_right(log, n, self.b) {
-            return Undone {
-                number: Record::LOG,
-                state: self,
-            };
-        }
         let back = begin::begun(list, self.b, log).replay(list, log, n, m - 1);
         if back.number != 0 {
             return Undone {
@@ -80,6 +58,29 @@ impl State {
             };
         }
         back
+    }
+
+    // What refuses an undo, of its tests in their order but the last, the replay. 0 where nothing does.
+    fn undo_refusal(self, list: &[u8], log: &[u8]) -> u8
+        ensures { λ r. ⌜ r ≡ refusal (before-replay (now (list .entry)) (as-state self) (now (log .entry))) ⌝ }
+    {
+        if !list::sound(list) {
+            return Record::LIST;
+        }
+        if !self.sound(list) {
+            return Record::STATE;
+        }
+        if self.m == 0 {
+            return Record::EMPTY;
+        }
+        let n = self.n as usize;
+        if log.len() < 2 * (n + self.m as usize) {
+            return Record::LOG;
+        }
+        if !starts_right(log, n, self.b) {
+            return Record::LOG;
+        }
+        0
     }
 
     // So many steps of a log, from record i on, replayed on a list and a state that are sound: 0 and the state reached, or the refusal of

@@ -1,55 +1,44 @@
-use Rattle.run.specs.Picked.{picked}
-use Rattle.rules.specs.Records.{Pick, pick-bytes}
-use Rattle.rules.specs.Words.{if_then_else_, written}
-use lib.Dec.{eqb}
+use Prim.Native.Nat.{_+_, _*_}
 use mathlib.Core.Path.{_≡_}
--- `run::State::advance` meets its contract: past FULL and ROOM a step is its pick, and the pick's record in the log.
--- Assumes nothing.
-use Rattle.run.proofs.Written.{written-record}
-use Rattle.run.proofs.Picks.{few-steps, step-picked}
-use Rattle.run.specs.View.{as-state}
-use Rattle.run.specs.Picked.{Going}
-use Rattle.rules.specs.Step as rules
-use Rattle.rules.specs.Words.{judge}
-use borrow.Author.Tests.{eq-eqb, ne-eqb, lt-ltb}
-use lib.ListN.{length, length-set}
 use native.Mathlib.Omega.{arith}
-use Prim.Native.Nat.{_+_, _*_, _≤_}
+use lib.Dec.{eqb}
+use lib.ListN.{length, length-set}
 use borrow.Author.Needs.{needs}
+use borrow.Author.Tests.{eq-eqb, ne-eqb, lt-ltb}
+use Rattle.rules.specs.Words.{if_then_else_, written, judge}
+use Rattle.rules.specs.Records.{Pick, pick-bytes}
+use Rattle.rules.specs.Step as rules
+use Rattle.run.specs.Picked.{picked, Going}
+use Rattle.run.specs.View.{as-state}
+use Rattle.run.proofs.Picks.{few-steps, step-picked}
+use Rattle.run.proofs.Written.{written-record}
 use Rattle.run.proofs.State.advance.Statement.{statement}
 use Rattle.run.proofs.State.advance.Tie as tie
-use Rattle.run.proofs.State.advance.Reads as reads
-use Rattle.run.proofs.State.advance.Lts as lts
-use Rattle.run.proofs.State.pick.Reads as pick-reads
 
--- src/step.rt:44:13
+-- `run::State::advance` meets its contract: past FULL and ROOM a step is its pick, and the pick's record in the log.
+-- Assumes nothing.
+
 returns : tie.Need-returns
 unfolding rules.step judge
 returns c =
     let pre = c .before .before .before .before .pre in
     rw (pre .0, pre .1, eq-eqb _ _ (c .if1 .taken))
 
--- src/step.rt:49:23
 cast-at : tie.Need-cast-at
 cast-at c = search needs
 
--- src/step.rt:49:41
 cast-at-2 : tie.Need-cast-at-2
 cast-at-2 c = search needs
 
--- src/step.rt:49:23
 add-at : tie.Need-add-at
 add-at c = search needs
 
--- src/step.rt:49:18
 mul-at : tie.Need-mul-at
 mul-at c = search needs
 
--- src/step.rt:50:24
 add-if2 : tie.Need-add-if2
 add-if2 c = search needs
 
--- src/step.rt:51:13
 returns-2 : tie.Need-returns-2
 unfolding rules.step judge
 returns-2 c =
@@ -85,32 +74,25 @@ by-pick : (c : tie.Else2) → let a = c .before .before .before .before .before 
     }
 by-pick c = step-picked _ _ _ _ (going c) (omega (arith, c .if2 .left))
 
--- src/step.rt:56:13
 pick-requires : tie.Need-pick-requires
 pick-requires c κs = going c
 
--- src/step.rt:58:13
 returns-3 : tie.Need-returns-3
 returns-3 c =
     rw (by-pick (c .before .before .before), ← c .before .before .pick .ensures, ne-eqb _ _ (c .if3 .taken))
 
--- src/step.rt:60:9
 slice-write-log : tie.Need-slice-write-log
 slice-write-log c = search needs
 
--- src/step.rt:61:13
 add-log : tie.Need-add-log
 add-log c = search needs
 
--- src/step.rt:61:9
 slice-write-log-2 : tie.Need-slice-write-log-2
 slice-write-log-2 c = simp length-set (omega (arith, c .before .before .before .if2 .left))
 
--- src/step.rt:39:5
 same-length : tie.Need-same-length
 same-length c = search needs
 
--- src/step.rt:39:5
 returns-4 : tie.Need-returns-4
 returns-4 c =
     rw (

@@ -1,27 +1,24 @@
 -- `run::State::charged` meets its contract. The loop's invariant: the stations passed are charged. The measure is what is left of them.
 -- Assumes nothing.
-use Rattle.run.proofs.Changes.{changed-next, priorities-turn}
-use Rattle.run.proofs.Signed.{sfits-pred}
-use Rattle.run.specs.declared.State.{State}
-use Rattle.run.specs.View.{with-priorities}
-use Rattle.rules.specs.Step as rules
-use Rattle.rules.specs.Words.{changed}
-use lib.ListN.{getD}
-use lib.IntN.{ℤ, pos}
-use lib.Dec.{eqb}
-use mir.ValLaws.{toZ-ofZ}
-use mir.Val.{SFits}
-use mir.Syntax.{w16}
-use native.Mathlib.Omega.{arith}
-use mathlib.Core.Bool.{false}
+use Prim.Native.Nat.{_≤_, _-_}
 use mathlib.Core.Path.{_≡_, refl, ap, _∙_}
-use Prim.Native.Nat.{ℕ, _≤_, _-_}
+use mathlib.Core.Bool.{false}
+use native.Mathlib.Omega.{arith}
+use mir.Syntax.{w16}
+use mir.Val.{SFits}
+use mir.ValLaws.{toZ-ofZ}
+use lib.Dec.{eqb}
+use lib.IntN.{ℤ, pos}
+use lib.ListN.{getD}
 use borrow.Author.Needs.{needs}
+use Rattle.rules.specs.Words.{changed}
+use Rattle.rules.specs.Step as rules
+use Rattle.run.specs.View.{with-priorities}
+use Rattle.run.specs.declared.State.{State}
+use Rattle.run.proofs.Signed.{sfits-pred}
+use Rattle.run.proofs.Changes.{changed-next, priorities-turn}
 use Rattle.run.proofs.State.charged.Statement.{statement}
 use Rattle.run.proofs.State.charged.Tie as tie
-use Rattle.run.proofs.State.charged.Reads as reads
-use Rattle.run.proofs.State.charged.Lts as lts
-use Rattle.run.proofs.charge.charged_one.Reads as charged-one-reads
 
 abbrev Inv-loop : tie.InvT-loop
 Inv-loop station reset self₀ all n picked j₀ self j =
@@ -31,28 +28,22 @@ Inv-loop station reset self₀ all n picked j₀ self j =
 abbrev μ-loop : tie.MeasureT-loop
 μ-loop station reset self₀ all n picked j₀ self j = n - j
 
--- src/charge.rt:39:17
 cast-n : tie.Need-cast-n Inv-loop μ-loop
 cast-n c = search needs
 
--- src/charge.rt:42:9
 loop-holds : tie.Need-loop-holds Inv-loop μ-loop
 unfolding changed
 loop-holds c = (search needs, refl)
 
--- src/charge.rt:43:21
 mul-p : tie.Need-mul-p Inv-loop μ-loop
 mul-p c = search needs
 
--- src/charge.rt:43:21
 element-copy-out-p : tie.Need-element-copy-out-p Inv-loop μ-loop
 element-copy-out-p c = search needs
 
--- src/charge.rt:44:49
 array-read-charged-one : tie.Need-array-read-charged-one Inv-loop μ-loop
 array-read-charged-one c = search needs
 
--- src/charge.rt:44:17
 charged-one-requires : tie.Need-charged-one-requires Inv-loop μ-loop
 charged-one-requires c κs =
     let at = c .before .before in
@@ -64,35 +55,28 @@ charged-one-requires c κs =
     rw (toZ-ofZ w16 _ fits, same)
     (sfits-pred (self₀ .n) _ (at .before .pre .0) (rw same at fits) (at .before .pre .1 j (search needs)))
 
--- src/charge.rt:45:13
 mul-q : tie.Need-mul-q Inv-loop μ-loop
 mul-q c = search needs
 
--- src/charge.rt:45:13
 element-set-from-q : tie.Need-element-set-from-q Inv-loop μ-loop
 element-set-from-q c = search needs
 
--- src/charge.rt:46:13
 add-j : tie.Need-add-j Inv-loop μ-loop
 add-j c = search needs
 
--- src/charge.rt:42:9
 loop-less : tie.Need-loop-less Inv-loop μ-loop
 loop-less c = search needs
 
--- src/charge.rt:42:9
 loop-again : tie.Need-loop-again Inv-loop μ-loop
 loop-again c =
     let at = c .before .before .before in
-    let p : ℤ = getD (at .loop .self .priorities) (at .loop .j) (pos 0) in
-    (
+    let p : ℤ = getD (at .loop .self .priorities) (at .loop .j) (pos 0) in (
       search needs,
       priorities-turn _ _ _ _ _ (at .loop .inv .1)
-      (toZ-ofZ w16 _ (record { sfits = c .charged-one .ok })
-      ∙ rw (toZ-ofZ w16 p (record { sfits = c .before .p .given })) at (c .charged-one .ensures)),
+          (toZ-ofZ w16 _ (record { sfits = c .charged-one .ok })
+          ∙ rw (toZ-ofZ w16 p (record { sfits = c .before .p .given })) at (c .charged-one .ensures)),
     )
 
--- src/charge.rt:35:5
 returns : tie.Need-returns Inv-loop μ-loop
 returns c =
     let e : c .before .loop .j ≡ c .before .before .args .t1 .n = omega arith in

@@ -1,22 +1,17 @@
 -- `run::State::ended` meets its contract.
 -- Assumes nothing.
-use Rattle.rules.specs.Ready.{ended}
-use Rattle.rules.specs.Records.{ListRecord}
-use Rattle.rules.specs.Names.{STOP}
-use lib.Dec.{eqb}
 use mathlib.Core.Path.{ap}
+use lib.Dec.{eqb}
 use borrow.Author.Needs.{needs}
+use Rattle.rules.specs.Names.{STOP}
+use Rattle.rules.specs.Records.{ListRecord}
+use Rattle.rules.specs.Ready.{ended}
 use Rattle.run.proofs.State.ended.Statement.{statement}
 use Rattle.run.proofs.State.ended.Tie as tie
-use Rattle.run.proofs.State.ended.Reads as reads
-use Rattle.run.proofs.State.ended.Lts as lts
-use Rattle.run.proofs.State.next_step.Reads as next-step-reads
 
--- src/ready.rt:28:13
 next-step-requires : tie.Need-next-step-requires
 next-step-requires c κs = search needs
 
--- src/ready.rt:25:5
 returns : tie.Need-returns
 unfolding ended
 returns c =

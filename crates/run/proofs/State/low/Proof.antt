@@ -1,31 +1,24 @@
 -- `run::State::low` meets its contract.
 -- Assumes nothing.
-use Rattle.run.proofs.Signed.{sfits-neg}
 use native.Mathlib.Omega.{arith}
-use lib.IntN.{+ℤ-idl}
-use mir.ValLaws.{toZ-ofZ, toZ-pos}
 use mir.Syntax.{w16}
+use mir.ValLaws.{toZ-ofZ, toZ-pos}
+use lib.IntN.{+ℤ-idl}
 use borrow.Author.Needs.{needs}
+use Rattle.run.proofs.Signed.{sfits-neg}
 use Rattle.run.proofs.State.low.Statement.{statement}
 use Rattle.run.proofs.State.low.Tie as tie
-use Rattle.run.proofs.State.low.Reads as reads
-use Rattle.run.proofs.State.low.Lts as lts
-use Rattle.run.proofs.State.priority.Reads as priority-reads
 
--- src/sound.rt:106:9
 priority-requires : tie.Need-priority-requires
 priority-requires c κs = search needs
 
--- src/sound.rt:106:34
 cast-result : tie.Need-cast-result
 cast-result c = search needs
 
--- src/sound.rt:106:29
 sub-result : tie.Need-sub-result
 sub-result c =
     rw (toZ-pos w16 (c .before .args .k) (omega arith), +ℤ-idl) (sfits-neg (c .before .args .k) (omega arith))
 
--- src/sound.rt:103:5
 returns : tie.Need-returns
 returns c =
     let k = c .before .args .k in

@@ -1,23 +1,20 @@
 -- `run::State::low_count` meets its contract. The loop's invariant: those passed are counted. The measure is what is left of the stations.
 -- Assumes nothing.
-use Rattle.run.specs.View.{as-state}
-use Rattle.laws.proofs.Places.{tally-suc, tally-within}
-use Rattle.rules.specs.State.{priority}
-use Rattle.rules.specs.Words.{tally}
-use lib.Signed.{leZ}
+use Prim.Native.Nat.{ℕ, _-_, _≤_}
+use mathlib.Core.Path.{_≡_, refl, _∙_}
+use mathlib.Core.Logic.{⊎-elim}
 use mathlib.Core.Bool.{Bool}
-use lib.IntN.{pos, negℤ}
 use native.Mathlib.Numerals.{add-one}
 use native.Mathlib.Omega.{arith}
-use mathlib.Core.Logic.{⊎-elim}
-use mathlib.Core.Path.{_≡_, refl, sym, ap, _∙_}
-use Prim.Native.Nat.{ℕ, suc, _+_, _-_, _≤_, _<_}
+use lib.IntN.{pos, negℤ}
+use lib.Signed.{leZ}
 use borrow.Author.Needs.{needs}
+use Rattle.rules.specs.Words.{tally}
+use Rattle.rules.specs.State.{priority}
+use Rattle.laws.proofs.Places.{tally-suc, tally-within}
+use Rattle.run.specs.View.{as-state}
 use Rattle.run.proofs.State.low_count.Statement.{statement}
 use Rattle.run.proofs.State.low_count.Tie as tie
-use Rattle.run.proofs.State.low_count.Reads as reads
-use Rattle.run.proofs.State.low_count.Lts as lts
-use Rattle.run.proofs.State.low.Reads as low-reads
 
 abbrev Inv-loop : tie.InvT-loop
 Inv-loop self k n count₀ j₀ count j = (j ≤ n) × (count ≡ tally (λ i. leZ (priority (as-state self) i) (negℤ (pos k))) j)
@@ -25,49 +22,40 @@ Inv-loop self k n count₀ j₀ count j = (j ≤ n) × (count ≡ tally (λ i. l
 abbrev μ-loop : tie.MeasureT-loop
 μ-loop self k n count₀ j₀ count j = n - j
 
--- src/sound.rt:90:17
 cast-n : tie.Need-cast-n Inv-loop μ-loop
 cast-n c = search needs
 
--- src/sound.rt:93:9
 loop-holds : tie.Need-loop-holds Inv-loop μ-loop
 unfolding tally
 loop-holds c = (search needs, refl)
 
--- src/sound.rt:94:16
 low-requires : tie.Need-low-requires Inv-loop μ-loop
 low-requires c κs = search needs
 
--- src/sound.rt:95:17
 add-count : tie.Need-add-count Inv-loop μ-loop
 add-count c =
     let turn = c .before .before in
     let a = turn .before .before .before .args in
     omega (arith, tally-within (λ i. leZ (priority (as-state (a .self)) i) (negℤ (pos (a .k)))) (turn .before .loop .j))
 
--- src/sound.rt:97:13
 add-j : tie.Need-add-j Inv-loop μ-loop
 add-j c = search needs
 
--- src/sound.rt:93:9
 loop-less : tie.Need-loop-less Inv-loop μ-loop
 loop-less c = search needs
 
--- src/sound.rt:93:9
 loop-again : tie.Need-loop-again Inv-loop μ-loop
 loop-again c =
     let turn = c .before .before in
     let a = turn .before .before .before .args in
     let low : ℕ → Bool = λ i. leZ (priority (as-state (a .self)) i) (negℤ (pos (a .k))) in
     let j = turn .before .loop .j in
-    let counted = turn .before .loop .inv .1 in
-    (
+    let counted = turn .before .loop .inv .1 in (
       search needs,
       rw (add-one, tally-suc low j, ← c .before .low .ensures)
-      (⊎-elim (λ w. rw (w .0 .taken) (w .1 ∙ rw (counted, add-one))) (λ w. rw (w .0 .left) (w .1 ∙ counted)) (c .if1 .came)),
+          (⊎-elim (λ w. rw (w .0 .taken) (w .1 ∙ rw (counted, add-one))) (λ w. rw (w .0 .left) (w .1 ∙ counted)) (c .if1 .came)),
     )
 
--- src/sound.rt:87:5
 returns : tie.Need-returns Inv-loop μ-loop
 returns c =
     let e : c .before .loop .j ≡ c .before .before .before .args .self .n = omega arith in

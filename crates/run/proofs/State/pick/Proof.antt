@@ -1,96 +1,60 @@
--- `run::State::pick` meets its contract: the first test that refuses decides.
+-- `run::State::pick` meets its contract.
 -- Assumes nothing.
-use Rattle.run.specs.Picked.{picked}
-use Rattle.rules.specs.Words.{judge}
-use borrow.Author.Tests.{le-leb, lt-leb, le-ltb, lt-ltb, not-true, not-false}
-use mathlib.Core.Path.{sym, _∙_}
+use mathlib.Core.Path.{_≡_, refl, sym, _∙_}
 use borrow.Author.Needs.{needs}
+use borrow.Author.Tests.{eq-eqb, ne-eqb}
+use Rattle.rules.specs.Words.{refusal}
+use Rattle.rules.specs.Step.{pick-tests}
+use Rattle.fair.proofs.Taken.{pick-taken}
+use Rattle.fair.proofs.Tests.{unrefused}
+use Rattle.run.specs.Picked.{picked}
+use Rattle.run.specs.View.{as-state}
 use Rattle.run.proofs.State.pick.Statement.{statement}
 use Rattle.run.proofs.State.pick.Tie as tie
-use Rattle.run.proofs.State.pick.Reads as reads
-use Rattle.run.proofs.State.pick.Lts as lts
-use Rattle.run.proofs.State.lowest_of.Reads as lowest-of-reads
-use Rattle.run.proofs.State.readiness.Reads as readiness-reads
-use Rattle.run.proofs.State.ready_of.Reads as ready-of-reads
-use Rattle.run.proofs.State.stepped.Reads as stepped-reads
 
--- src/step.rt:72:13
-returns : tie.Need-returns
-unfolding picked judge
-returns c = rw (le-leb _ _ (c .if1 .taken))
+-- the number is the refusal of tests 10 to 13
+judged : (c : tie.After-pick-refusal) → let a = c .before .before .before .before .before .before .before .args in
+    c .pick-refusal .result ≡ refusal (pick-tests (a .list .now) (as-state (a .self)) (record { station = a .station; reset = a .reset }))
+judged c =
+    let turned = c .before .before .before in
+    rw (turned .before .ready-of .ensures, turned .lowest-of .ensures) at (c .pick-refusal .ensures)
 
--- src/step.rt:77:13
 readiness-requires : tie.Need-readiness-requires
 readiness-requires c κs = search needs
 
--- src/step.rt:79:13
 ready-of-requires : tie.Need-ready-of-requires
 ready-of-requires c κs = c .readiness .ensures
 
--- src/step.rt:80:13
-returns-2 : tie.Need-returns-2
-unfolding picked judge
-returns-2 c =
-    rw (lt-leb _ _ (c .before .before .before .if1 .left), sym (c .before .ready-of .ensures) ∙ not-true _ (c .if2 .taken))
-
--- src/step.rt:85:13
 lowest-of-requires : tie.Need-lowest-of-requires
-lowest-of-requires c κs = c .before .before .readiness .ensures
+lowest-of-requires c κs = c .before .readiness .ensures
 
--- src/step.rt:86:13
-returns-3 : tie.Need-returns-3
-unfolding picked judge
-returns-3 c =
-    let readied = c .before .before in
-    rw (
-      lt-leb _ _ (readied .before .before .before .if1 .left),
-      sym (readied .before .ready-of .ensures) ∙ not-false _ (readied .if2 .left),
-      sym (c .before .lowest-of .ensures) ∙ not-true _ (c .if3 .taken),
-    )
+pick-refusal-requires : tie.Need-pick-refusal-requires
+pick-refusal-requires c κs = search needs
 
--- src/step.rt:92:13
-returns-4 : tie.Need-returns-4
-unfolding picked judge
-returns-4 c =
-    let turned = c .before .before in
-    let readied = turned .before .before in
-    rw (
-      lt-leb _ _ (readied .before .before .before .if1 .left),
-      sym (readied .before .ready-of .ensures) ∙ not-false _ (readied .if2 .left),
-      sym (turned .before .lowest-of .ensures) ∙ not-false _ (turned .if3 .left),
-      lt-ltb _ _ (c .if4 .taken),
-    )
+returns : tie.Need-returns
+unfolding picked
+returns c = rw (← judged (c .before), ne-eqb _ _ (c .if1 .taken))
 
--- src/step.rt:99:20
 stepped-requires : tie.Need-stepped-requires
 stepped-requires c κs =
-    let counted = c .before .before .before .before .before .before .before in
-    (counted .before .before .before .pre, c .before .before .before .before .before .before .readiness .ensures, counted .if1 .left)
+    let readied = c .before .before .before .before .before .before in
+    let start = readied .before .before in
+    let none = unrefused _ refl .0 (sym (judged (c .before)) ∙ c .if1 .left) in
+    (start .pre, readied .readiness .ensures, pick-taken _ _ _ .0 none .0 .station)
 
--- src/step.rt:67:5
-returns-5 : tie.Need-returns-5
-unfolding picked judge
-returns-5 c =
-    let turned = c .before .before .before in
-    let readied = turned .before .before in
-    rw (
-      lt-leb _ _ (readied .before .before .before .if1 .left),
-      sym (readied .before .ready-of .ensures) ∙ not-false _ (readied .if2 .left),
-      sym (turned .before .lowest-of .ensures) ∙ not-false _ (turned .if3 .left),
-      le-ltb _ _ (c .before .if4 .left),
-      c .stepped .ensures,
-    )
+returns-2 : tie.Need-returns-2
+unfolding picked
+returns-2 c =
+    rw (← judged (c .before .before), eq-eqb _ _ (c .before .if1 .left), c .stepped .ensures)
 
 pub pick-spec : {M : Type 1} → statement M
 pick-spec =
     tie.close
     (tie.spec
-    returns
     readiness-requires
     ready-of-requires
-    returns-2
     lowest-of-requires
-    returns-3
-    returns-4
+    pick-refusal-requires
+    returns
     stepped-requires
-    returns-5)
+    returns-2)

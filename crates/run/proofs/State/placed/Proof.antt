@@ -1,23 +1,19 @@
 -- `run::State::placed` meets its contract. The loop's invariant: each station passed stands right. The measure is what is left of the
 -- stations.
 -- Assumes nothing.
-use Rattle.run.specs.View.{as-state}
-use Rattle.list.specs.Given.{is-at-from}
-use Rattle.laws.proofs.Places.{each-all, each-not}
-use Rattle.rules.specs.State.{position}
-use borrow.Author.Tests.{not-true, not-false}
-use borrow.Author.Count.{below-none, below-more}
-use native.Mathlib.Omega.{arith}
-use mathlib.Core.Bool.{true}
-use mathlib.Core.Path.{_≡_, sym, ap, _∙_}
 use Prim.Native.Nat.{ℕ, _-_, _≤_, _<_}
+use mathlib.Core.Path.{_≡_, sym, _∙_}
+use mathlib.Core.Bool.{true}
+use native.Mathlib.Omega.{arith}
 use borrow.Author.Needs.{needs}
+use borrow.Author.Count.{below-none, below-more}
+use borrow.Author.Tests.{not-true, not-false}
+use Rattle.rules.specs.State.{position}
+use Rattle.laws.proofs.Places.{each-all, each-not}
+use Rattle.list.specs.Given.{is-at-from}
+use Rattle.run.specs.View.{as-state}
 use Rattle.run.proofs.State.placed.Statement.{statement}
 use Rattle.run.proofs.State.placed.Tie as tie
-use Rattle.run.proofs.State.placed.Reads as reads
-use Rattle.run.proofs.State.placed.Lts as lts
-use Rattle.list.proofs.outside.Reads as outside-reads
-use Rattle.run.proofs.State.position.Reads as position-reads
 
 abbrev Inv-loop : tie.InvT-loop
 Inv-loop self list later n j₀ j =
@@ -26,27 +22,21 @@ Inv-loop self list later n j₀ j =
 abbrev μ-loop : tie.MeasureT-loop
 μ-loop self list later n j₀ j = n - j
 
--- src/sound.rt:37:17
 cast-n : tie.Need-cast-n Inv-loop μ-loop
 cast-n c = search needs
 
--- src/sound.rt:39:9
 loop-holds : tie.Need-loop-holds Inv-loop μ-loop
 loop-holds c = (search needs, below-none _)
 
--- src/sound.rt:40:44
 cast-outside : tie.Need-cast-outside Inv-loop μ-loop
 cast-outside c = search needs
 
--- src/sound.rt:40:53
 position-requires : tie.Need-position-requires Inv-loop μ-loop
 position-requires c κs = search needs
 
--- src/sound.rt:40:17
 outside-requires : tie.Need-outside-requires Inv-loop μ-loop
 outside-requires c κs = search needs
 
--- src/sound.rt:41:17
 returns : tie.Need-returns Inv-loop μ-loop
 returns c =
     let turn = c .before .before .before in
@@ -54,21 +44,17 @@ returns c =
     let fails = sym (rw (c .before .before .position .ensures) at (c .before .outside .ensures)) ∙ not-true _ (c .if1 .taken) in
     sym (each-not _ (a .self .n) (turn .before .loop .j) (search needs) fails)
 
--- src/sound.rt:43:13
 add-j : tie.Need-add-j Inv-loop μ-loop
 add-j c = search needs
 
--- src/sound.rt:39:9
 loop-less : tie.Need-loop-less Inv-loop μ-loop
 loop-less c = search needs
 
--- src/sound.rt:39:9
 loop-again : tie.Need-loop-again Inv-loop μ-loop
 loop-again c =
     let passes = sym (rw (c .before .before .position .ensures) at (c .before .outside .ensures)) ∙ not-false _ (c .if1 .left) in
     (search needs, below-more _ _ (c .before .before .before .before .loop .inv .1) passes)
 
--- src/sound.rt:34:5
 returns-2 : tie.Need-returns-2 Inv-loop μ-loop
 returns-2 c =
     let a = c .before .before .before .before .args in

@@ -1,19 +1,16 @@
 -- `run::State::readiness` meets its contract. The loop's invariant: the places passed are filled. The measure is what is left of them.
 -- Assumes nothing.
-use Rattle.run.proofs.Filled.{filled, filled-none, filled-more, filled-all}
-use Rattle.run.specs.View.{as-state}
-use Rattle.rules.specs.Ready.{ready}
-use Rattle.rules.specs.Names.{max-stations}
-use native.Mathlib.Omega.{arith}
-use mathlib.Core.Bool.{false}
-use mathlib.Core.Path.{_≡_, _∙_}
 use Prim.Native.Nat.{_-_, _≤_}
+use mathlib.Core.Path.{_≡_, _∙_}
+use mathlib.Core.Bool.{false}
+use native.Mathlib.Omega.{arith}
 use borrow.Author.Needs.{needs}
+use Rattle.rules.specs.Names.{max-stations}
+use Rattle.rules.specs.Ready.{ready}
+use Rattle.run.specs.View.{as-state}
+use Rattle.run.proofs.Filled.{filled, filled-none, filled-more, filled-all}
 use Rattle.run.proofs.State.readiness.Statement.{statement}
 use Rattle.run.proofs.State.readiness.Tie as tie
-use Rattle.run.proofs.State.readiness.Reads as reads
-use Rattle.run.proofs.State.readiness.Lts as lts
-use Rattle.run.proofs.State.ready.Reads as ready-reads
 
 abbrev Inv-loop : tie.InvT-loop
 Inv-loop self list all₀ j₀ all j = (j ≤ max-stations) × (all ≡ filled (ready list (as-state self)) false max-stations j)
@@ -21,37 +18,29 @@ Inv-loop self list all₀ j₀ all j = (j ≤ max-stations) × (all ≡ filled (
 abbrev μ-loop : tie.MeasureT-loop
 μ-loop self list all₀ j₀ all j = max-stations - j
 
--- src/ready.rt:59:9
 loop-holds : tie.Need-loop-holds Inv-loop μ-loop
 loop-holds c = (search needs, filled-none _ false max-stations)
 
--- src/ready.rt:60:22
 ready-requires : tie.Need-ready-requires Inv-loop μ-loop
 ready-requires c κs = search needs
 
--- src/ready.rt:60:13
 array-write-all : tie.Need-array-write-all Inv-loop μ-loop
 array-write-all c = search needs
 
--- src/ready.rt:61:13
 add-j : tie.Need-add-j Inv-loop μ-loop
 add-j c = search needs
 
--- src/ready.rt:59:9
 loop-less : tie.Need-loop-less Inv-loop μ-loop
 loop-less c = search needs
 
--- src/ready.rt:59:9
 loop-again : tie.Need-loop-again Inv-loop μ-loop
 loop-again c =
-    let turn = c .before in
-    (
+    let turn = c .before in (
       search needs,
       rw (turn .before .loop .inv .1, c .ready .ensures)
-      (filled-more _ false max-stations _ (turn .loop-test .taken)),
+          (filled-more _ false max-stations _ (turn .loop-test .taken)),
     )
 
--- src/ready.rt:54:5
 returns : tie.Need-returns Inv-loop μ-loop
 returns c =
     let e : c .before .loop .j ≡ max-stations = omega arith in

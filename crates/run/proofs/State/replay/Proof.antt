@@ -1,25 +1,23 @@
+use Prim.Native.Nat.{_+_, _*_, _≤_}
+use mathlib.Core.Path.{_≡_, refl, sym, ap, _∙_}
+use mathlib.Core.Bool.{true}
+use native.Mathlib.Omega.{arith}
+use lib.ListN.{length}
+use borrow.Author.Needs.{needs}
+use Rattle.rules.specs.Names.{max-steps}
 use Rattle.rules.specs.Records.{pick-at}
+use Rattle.rules.specs.State.{sound-state}
+use Rattle.rules.specs.Undo as rules
 use Rattle.run.specs.Picked.{Going, Picked}
+use Rattle.run.specs.View.{as-state}
+use Rattle.run.proofs.Picks.{picked-sound, picked-m}
+use Rattle.run.proofs.Replays.{replay-taken, replay-refused}
+use Rattle.run.proofs.State.replay.Statement.{statement}
+use Rattle.run.proofs.State.replay.Tie as tie
+
 -- `run::State::replay` meets its contract. The loop's invariant: the state is sound, the log has the records to come, and those replayed
 -- answer what the whole does. The measure is what is left of the count.
 -- Assumes nothing.
-use Rattle.run.proofs.Replays.{replay-taken, replay-refused}
-use Rattle.run.proofs.Picks.{picked-sound, picked-m}
-use Rattle.run.specs.View.{as-state}
-use Rattle.rules.specs.Undo as rules
-use Rattle.rules.specs.State.{sound-state}
-use Rattle.rules.specs.Names.{max-steps}
-use lib.ListN.{length}
-use native.Mathlib.Omega.{arith}
-use mathlib.Core.Bool.{true}
-use mathlib.Core.Path.{_≡_, refl, sym, ap, _∙_}
-use Prim.Native.Nat.{_+_, _*_, _≤_}
-use borrow.Author.Needs.{needs}
-use Rattle.run.proofs.State.replay.Statement.{statement}
-use Rattle.run.proofs.State.replay.Tie as tie
-use Rattle.run.proofs.State.replay.Reads as reads
-use Rattle.run.proofs.State.replay.Lts as lts
-use Rattle.run.proofs.State.pick.Reads as pick-reads
 
 abbrev Inv-loop : tie.InvT-loop
 Inv-loop list log i₀ count state₀ left₀ i state left =
@@ -31,7 +29,6 @@ Inv-loop list log i₀ count state₀ left₀ i state left =
 abbrev μ-loop : tie.MeasureT-loop
 μ-loop list log i₀ count state₀ left₀ i state left = left
 
--- src/undo.rt:93:9
 loop-holds : tie.Need-loop-holds Inv-loop μ-loop
 loop-holds c =
     let pre = c .before .before .pre in
@@ -49,27 +46,21 @@ going c =
       steps-left = omega (arith, inv .1, turn .loop-test .taken);
     }
 
--- src/undo.rt:94:22
 mul-at : tie.Need-mul-at Inv-loop μ-loop
 mul-at c = search needs
 
--- src/undo.rt:95:42
 shared-slice-read-pick : tie.Need-shared-slice-read-pick Inv-loop μ-loop
 shared-slice-read-pick c = search needs
 
--- src/undo.rt:95:55
 add-pick : tie.Need-add-pick Inv-loop μ-loop
 add-pick c = search needs
 
--- src/undo.rt:95:51
 shared-slice-read-pick-2 : tie.Need-shared-slice-read-pick-2 Inv-loop μ-loop
 shared-slice-read-pick-2 c = search needs
 
--- src/undo.rt:95:17
 pick-requires : tie.Need-pick-requires Inv-loop μ-loop
 pick-requires c κs = going c
 
--- src/undo.rt:98:17
 returns : tie.Need-returns Inv-loop μ-loop
 returns c =
     let done = c .before .before .before in
@@ -80,19 +71,15 @@ returns c =
     ∙ rw (← done .pick .ensures) at (replay-refused (a .list .now) (a .log .now) (at .i) (as-state (at .state)) (at .left)
     (turn .loop-test .taken) (λ e. c .if1 .taken (ap (λ (a : Picked). a .number) (done .pick .ensures) ∙ e))))
 
--- src/undo.rt:103:13
 add-i : tie.Need-add-i Inv-loop μ-loop
 add-i c = search needs
 
--- src/undo.rt:104:13
 sub-left : tie.Need-sub-left Inv-loop μ-loop
 sub-left c = search needs
 
--- src/undo.rt:93:9
 loop-less : tie.Need-loop-less Inv-loop μ-loop
 loop-less c = search needs
 
--- src/undo.rt:93:9
 loop-again : tie.Need-loop-again Inv-loop μ-loop
 loop-again c =
     let done = c .before .before .before in
@@ -102,15 +89,13 @@ loop-again c =
     let s = as-state (at .state) in
     let p = pick-at (a .log .now) (at .i) in
     let taken = sym (ap (λ (a : Picked). a .number) (done .pick .ensures)) ∙ c .if1 .left in
-    let m = rw (← done .pick .ensures) at (picked-m (a .list .now) s p taken) in
-    (
+    let m = rw (← done .pick .ensures) at (picked-m (a .list .now) s p taken) in (
       rw (← done .pick .ensures) at (picked-sound (a .list .now) s p (going (done .before))),
       omega (arith, at .inv .1),
       omega (arith, at .inv .2),
       at .inv .3 ∙ rw (← done .pick .ensures) at (replay-taken (a .list .now) (a .log .now) (at .i) s (at .left) (turn .loop-test .taken) taken),
     )
 
--- src/undo.rt:87:5
 returns-2 : tie.Need-returns-2 Inv-loop μ-loop
 unfolding rules.replay
 returns-2 c =

@@ -1,43 +1,33 @@
-use lib.ListN.{length}
 use Prim.Native.Nat.{_/_}
--- `run::State::run` meets its contract: the picks, the list and the state are tested before any step.
--- Assumes nothing.
-use Rattle.rules.specs.Run as rules
-use Rattle.rules.specs.Words.{judge}
-use borrow.Author.Tests.{eq-eqb, ne-eqb, not-true, not-false}
+use mathlib.Core.Path.{sym, _∙_}
 use native.Mathlib.Nat.{min-le-right}
 use native.Mathlib.Omega.{arith}
-use mathlib.Core.Path.{sym, _∙_}
+use lib.ListN.{length}
 use borrow.Author.Needs.{needs}
+use borrow.Author.Tests.{eq-eqb, ne-eqb, not-true, not-false}
+use Rattle.rules.specs.Words.{judge}
+use Rattle.rules.specs.Run as rules
 use Rattle.run.proofs.State.run.Statement.{statement}
 use Rattle.run.proofs.State.run.Tie as tie
-use Rattle.run.proofs.State.run.Reads as reads
-use Rattle.run.proofs.State.run.Lts as lts
-use Rattle.list.proofs.sound.Reads as sound-reads
-use Rattle.run.proofs.State.sound.Reads as State-sound-reads
-use Rattle.run.proofs.State.steps.Reads as steps-reads
-use Rattle.run.proofs.run.least.Reads as least-reads
 
--- src/run.rt:31:13
+-- `run::State::run` meets its contract: the picks, the list and the state are tested before any step.
+-- Assumes nothing.
+
 returns : tie.Need-returns
 unfolding rules.run judge
 returns c = rw (eq-eqb _ _ (c .if1 .taken))
 
--- src/run.rt:37:13
 sound-requires : tie.Need-sound-requires
 sound-requires c κs = search needs
 
--- src/run.rt:38:13
 returns-2 : tie.Need-returns-2
 unfolding rules.run judge
 returns-2 c =
     rw (ne-eqb _ _ (c .before .before .if1 .left), sym (c .before .sound .ensures) ∙ not-true _ (c .if2 .taken))
 
--- src/run.rt:44:13
 sound-requires-2 : tie.Need-sound-requires-2
 sound-requires-2 c κs = search needs
 
--- src/run.rt:45:13
 returns-3 : tie.Need-returns-3
 unfolding rules.run judge
 returns-3 c =
@@ -48,27 +38,22 @@ returns-3 c =
       sym (c .before .sound2 .ensures) ∙ not-true _ (c .if3 .taken),
     )
 
--- src/run.rt:51:38
 least-requires : tie.Need-least-requires
 least-requires c κs = search needs
 
--- src/run.rt:51:9
 steps-requires : tie.Need-steps-requires
 steps-requires c κs =
     let stated = c .before .before in
     let listed = stated .before .before in
-    let a = listed .before .before .before .before .before .before .args in
-    (
+    let a = listed .before .before .before .before .before .before .args in (
       sym (listed .before .sound .ensures) ∙ not-false _ (listed .if2 .left),
       sym (stated .before .sound2 .ensures) ∙ not-false _ (stated .if3 .left),
       omega (arith, c .least .ensures, min-le-right (a .most) (length (a .picks .now) / 2)),
     )
 
--- src/run.rt:27:5
 same-length : tie.Need-same-length
 same-length c = search needs
 
--- src/run.rt:27:5
 returns-4 : tie.Need-returns-4
 unfolding rules.run judge
 returns-4 c =

@@ -1,50 +1,35 @@
 -- `run::State::sound` meets its contract: a test that fails decides at once.
 -- Assumes nothing.
-use Rattle.run.proofs.Clauses.{sound-given}
-use Rattle.rules.specs.State.{sound-state}
 use mathlib.Core.Path.{sym, _∙_}
-use borrow.Author.Tests.{le-leb, lt-leb, eq-eqb, ne-eqb, not-true, not-false}
 use borrow.Author.Needs.{needs}
+use borrow.Author.Tests.{le-leb, lt-leb, eq-eqb, ne-eqb, not-true, not-false}
+use Rattle.rules.specs.State.{sound-state}
+use Rattle.run.proofs.Clauses.{sound-given}
 use Rattle.run.proofs.State.sound.Statement.{statement}
 use Rattle.run.proofs.State.sound.Tie as tie
-use Rattle.run.proofs.State.sound.Reads as reads
-use Rattle.run.proofs.State.sound.Lts as lts
-use Rattle.list.proofs.later.Reads as later-reads
-use Rattle.list.proofs.stations.Reads as stations-reads
-use Rattle.run.proofs.State.bounded.Reads as bounded-reads
-use Rattle.run.proofs.State.empty.Reads as empty-reads
-use Rattle.run.proofs.State.few_low.Reads as few-low-reads
-use Rattle.run.proofs.State.placed.Reads as placed-reads
 
--- src/sound.rt:20:13
 stations-requires : tie.Need-stations-requires
 stations-requires c κs = search needs
 
--- src/sound.rt:21:12
 cast-if1 : tie.Need-cast-if1
 cast-if1 c = search needs
 
--- src/sound.rt:22:13
 returns : tie.Need-returns
 unfolding sound-state
 returns c = rw (← c .before .before .stations .ensures, ne-eqb _ _ (c .if1 .taken))
 
--- src/sound.rt:25:13
 returns-2 : tie.Need-returns-2
 unfolding sound-state
 returns-2 c =
     let tested = c .before .before in
     rw (← tested .before .before .stations .ensures, eq-eqb _ _ (tested .if1 .left), lt-leb _ _ (c .if2 .taken))
 
--- src/sound.rt:27:31
 later-requires : tie.Need-later-requires
 later-requires c κs = search needs
 
--- src/sound.rt:27:13
 placed-requires : tie.Need-placed-requires
 placed-requires c κs = search needs
 
--- src/sound.rt:28:13
 returns-3 : tie.Need-returns-3
 returns-3 c =
     let found = c .before .before in
@@ -56,19 +41,15 @@ returns-3 c =
       sym (c .before .placed .ensures) ∙ not-true _ (c .if3 .taken),
     )
 
--- src/sound.rt:30:9
 bounded-requires : tie.Need-bounded-requires
 bounded-requires c κs = search needs
 
--- src/sound.rt:30:26
 few-low-requires : tie.Need-few-low-requires
 few-low-requires c κs = search needs
 
--- src/sound.rt:30:43
 empty-requires : tie.Need-empty-requires
 empty-requires c κs = search needs
 
--- src/sound.rt:17:5
 returns-4 : tie.Need-returns-4
 returns-4 c =
     let placed = c .before .before .before in

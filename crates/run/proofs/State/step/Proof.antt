@@ -1,53 +1,40 @@
 -- `run::State::step` meets its contract: the list and the state are tested first.
 -- Assumes nothing.
-use Rattle.rules.specs.Step as rules
-use Rattle.rules.specs.Words.{judge}
-use borrow.Author.Tests.{not-true, not-false}
 use mathlib.Core.Path.{sym, _∙_}
 use borrow.Author.Needs.{needs}
+use borrow.Author.Tests.{not-true, not-false}
+use Rattle.rules.specs.Words.{judge}
+use Rattle.rules.specs.Step as rules
 use Rattle.run.proofs.State.step.Statement.{statement}
 use Rattle.run.proofs.State.step.Tie as tie
-use Rattle.run.proofs.State.step.Reads as reads
-use Rattle.run.proofs.State.step.Lts as lts
-use Rattle.list.proofs.sound.Reads as sound-reads
-use Rattle.run.proofs.State.advance.Reads as advance-reads
-use Rattle.run.proofs.State.sound.Reads as State-sound-reads
 
--- src/step.rt:23:13
 sound-requires : tie.Need-sound-requires
 sound-requires c κs = search needs
 
--- src/step.rt:24:13
 returns : tie.Need-returns
 unfolding rules.step judge
 returns c = rw (sym (c .before .sound .ensures) ∙ not-true _ (c .if1 .taken))
 
--- src/step.rt:29:13
 sound-requires-2 : tie.Need-sound-requires-2
 sound-requires-2 c κs = search needs
 
--- src/step.rt:30:13
 returns-2 : tie.Need-returns-2
 unfolding rules.step judge
 returns-2 c =
     let listed = c .before .before in
     rw (sym (listed .before .sound .ensures) ∙ not-false _ (listed .if1 .left), sym (c .before .sound2 .ensures) ∙ not-true _ (c .if2 .taken))
 
--- src/step.rt:35:9
 advance-requires : tie.Need-advance-requires
 advance-requires c κs =
     let stated = c .before in
-    let listed = stated .before .before in
-    (
+    let listed = stated .before .before in (
       sym (listed .before .sound .ensures) ∙ not-false _ (listed .if1 .left),
       sym (stated .before .sound2 .ensures) ∙ not-false _ (stated .if2 .left),
     )
 
--- src/step.rt:20:5
 same-length : tie.Need-same-length
 same-length c = search needs
 
--- src/step.rt:20:5
 returns-3 : tie.Need-returns-3
 returns-3 c = search needs
 

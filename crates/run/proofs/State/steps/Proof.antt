@@ -1,24 +1,22 @@
+use Prim.Native.Nat.{_-_, _≤_}
+use mathlib.Core.Path.{_≡_, refl, sym, ap, _∙_}
+use mathlib.Core.Bool.{true}
+use native.Mathlib.Omega.{arith}
+use lib.ListN.{length}
+use borrow.Author.Needs.{needs}
 use Rattle.rules.specs.Records.{pick-at}
+use Rattle.rules.specs.State.{sound-state}
 use Rattle.rules.specs.Step.{Stepped}
+use Rattle.rules.specs.Run.{steps-from}
+use Rattle.fair.proofs.Kept.{step-sound}
+use Rattle.run.specs.View.{as-state}
+use Rattle.run.proofs.Runs.{counted, counted-none, run-ended, run-taken, run-refused}
+use Rattle.run.proofs.State.steps.Statement.{statement}
+use Rattle.run.proofs.State.steps.Tie as tie
+
 -- `run::State::steps` meets its contract. The loop's invariant: the state is sound, the log has kept its length, and the steps to come,
 -- counted on from those taken, answer what the whole does. The measure is what is left of the count.
 -- Assumes nothing.
-use Rattle.run.proofs.Runs.{counted, counted-none, run-ended, run-taken, run-refused}
-use Rattle.run.specs.View.{as-state}
-use Rattle.fair.proofs.Kept.{step-sound}
-use Rattle.rules.specs.Run.{steps-from}
-use Rattle.rules.specs.State.{sound-state}
-use lib.ListN.{length}
-use native.Mathlib.Omega.{arith}
-use mathlib.Core.Bool.{true}
-use mathlib.Core.Path.{_≡_, refl, sym, ap, _∙_}
-use Prim.Native.Nat.{_-_, _≤_}
-use borrow.Author.Needs.{needs}
-use Rattle.run.proofs.State.steps.Statement.{statement}
-use Rattle.run.proofs.State.steps.Tie as tie
-use Rattle.run.proofs.State.steps.Reads as reads
-use Rattle.run.proofs.State.steps.Lts as lts
-use Rattle.run.proofs.State.advance.Reads as advance-reads
 
 abbrev Inv-loop : tie.InvT-loop
 Inv-loop list log₀ picks count state₀ steps₀ log state steps =
@@ -30,40 +28,32 @@ Inv-loop list log₀ picks count state₀ steps₀ log state steps =
 abbrev μ-loop : tie.MeasureT-loop
 μ-loop list log₀ picks count state₀ steps₀ log state steps = count - steps
 
--- src/run.rt:61:9
 loop-holds : tie.Need-loop-holds Inv-loop μ-loop
 loop-holds c =
     let start = c .before .before .before in
     let all : start .args .count - 0 ≡ start .args .count = omega arith in
     (search needs, refl, start .pre .1, rw all (counted-none _))
 
--- src/run.rt:62:22
 mul-at : tie.Need-mul-at Inv-loop μ-loop
 mul-at c = search needs
 
--- src/run.rt:63:50
 shared-slice-read-advance : tie.Need-shared-slice-read-advance Inv-loop μ-loop
 shared-slice-read-advance c = search needs
 
--- src/run.rt:63:67
 add-advance : tie.Need-add-advance Inv-loop μ-loop
 add-advance c = search needs
 
--- src/run.rt:63:61
 shared-slice-read-advance-2 : tie.Need-shared-slice-read-advance-2 Inv-loop μ-loop
 shared-slice-read-advance-2 c = search needs
 
--- src/run.rt:63:17
 advance-requires : tie.Need-advance-requires Inv-loop μ-loop
 advance-requires c κs =
     let at = c .before .before .before .before in
     (at .before .before .before .before .pre .0, at .loop .inv .2)
 
--- src/run.rt:66:17
 same-length : tie.Need-same-length Inv-loop μ-loop
 same-length c = search needs
 
--- src/run.rt:66:17
 returns : tie.Need-returns Inv-loop μ-loop
 returns c =
     let done = c .before .before .before .before .before in
@@ -74,23 +64,19 @@ returns c =
     ∙ rw (← done .advance .ensures) at (run-refused (a .list .now) (a .picks .now) (a .count) (at .steps) (as-state (at .state)) (at .log)
     (turn .loop-test .taken) (λ e. c .if1 .taken (ap (λ (a : Stepped). a .number) (done .advance .ensures) ∙ e))))
 
--- src/run.rt:72:13
 add-steps : tie.Need-add-steps Inv-loop μ-loop
 add-steps c = search needs
 
--- src/run.rt:61:9
 loop-less : tie.Need-loop-less Inv-loop μ-loop
 loop-less c = search needs
 
--- src/run.rt:61:9
 loop-again : tie.Need-loop-again Inv-loop μ-loop
 loop-again c =
     let done = c .before .before .before .before .before in
     let turn = done .before .before .before .before in
     let a = turn .before .before .before .before .before .args in
     let at = turn .before .loop in
-    let taken = sym (ap (λ (a : Stepped). a .number) (done .advance .ensures)) ∙ c .if1 .left in
-    (
+    let taken = sym (ap (λ (a : Stepped). a .number) (done .advance .ensures)) ∙ c .if1 .left in (
       search needs,
       done .advance .kept .1 .1 .0 ∙ at .inv .1,
       rw (← done .advance .ensures) at (step-sound (a .list .now) (as-state (at .state)) (at .log) (pick-at (a .picks .now) (at .steps)) (at .inv .2)),
@@ -99,11 +85,9 @@ loop-again c =
           (turn .loop-test .taken) taken),
     )
 
--- src/run.rt:55:5
 same-length-2 : tie.Need-same-length-2 Inv-loop μ-loop
 same-length-2 c = search needs
 
--- src/run.rt:55:5
 returns-2 : tie.Need-returns-2 Inv-loop μ-loop
 returns-2 c =
     let inv = c .before .loop .inv in

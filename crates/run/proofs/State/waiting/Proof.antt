@@ -1,31 +1,23 @@
 -- `run::State::waiting` meets its contract.
 -- Assumes nothing.
-use Rattle.rules.specs.Ready.{waiting}
-use borrow.Author.Tests.{eq-eqb, ne-eqb}
 use borrow.Author.Needs.{needs}
+use borrow.Author.Tests.{eq-eqb, ne-eqb}
+use Rattle.rules.specs.Ready.{waiting}
 use Rattle.run.proofs.State.waiting.Statement.{statement}
 use Rattle.run.proofs.State.waiting.Tie as tie
-use Rattle.run.proofs.State.waiting.Reads as reads
-use Rattle.run.proofs.State.waiting.Lts as lts
-use Rattle.run.proofs.State.next_step.Reads as next-step-reads
-use Rattle.values.proofs.holds.Reads as holds-reads
 
--- src/ready.rt:37:13
 next-step-requires : tie.Need-next-step-requires
 next-step-requires c κs = search needs
 
--- src/ready.rt:41:21
 holds-requires : tie.Need-holds-requires
 holds-requires c κs = search needs
 
--- src/ready.rt:41:13
 returns : tie.Need-returns
 unfolding waiting
 returns c =
     let known = c .before .before .before in
     rw (← known .before .before .before .next-step .ensures, eq-eqb _ _ (known .if1 .taken), c .holds .ensures)
 
--- src/ready.rt:34:5
 returns-2 : tie.Need-returns-2
 unfolding waiting
 returns-2 c = rw (← c .before .before .before .next-step .ensures, ne-eqb _ _ (c .if1 .left))

@@ -1,24 +1,18 @@
 -- `run::State::within` meets its contract.
 -- Assumes nothing.
 use native.Mathlib.Omega.{arith}
-use mir.ValLaws.{toZ-ofZ, toZ-pos}
 use mir.Syntax.{w16}
+use mir.ValLaws.{toZ-ofZ, toZ-pos}
 use borrow.Author.Needs.{needs}
 use Rattle.run.proofs.State.within.Statement.{statement}
 use Rattle.run.proofs.State.within.Tie as tie
-use Rattle.run.proofs.State.within.Reads as reads
-use Rattle.run.proofs.State.within.Lts as lts
-use Rattle.run.proofs.State.priority.Reads as priority-reads
 
--- src/sound.rt:67:9
 priority-requires : tie.Need-priority-requires
 priority-requires c κs = search needs
 
--- src/sound.rt:67:29
 cast-result : tie.Need-cast-result
 cast-result c = search needs
 
--- src/sound.rt:64:5
 returns : tie.Need-returns
 returns c =
     rw (

@@ -1,23 +1,17 @@
 -- `run::State::yields` meets its contract.
 -- Assumes nothing.
-use mir.ValLaws.{toZ-ofZ}
 use mir.Syntax.{w16}
+use mir.ValLaws.{toZ-ofZ}
 use borrow.Author.Needs.{needs}
 use Rattle.run.proofs.State.yields.Statement.{statement}
 use Rattle.run.proofs.State.yields.Tie as tie
-use Rattle.run.proofs.State.yields.Reads as reads
-use Rattle.run.proofs.State.yields.Lts as lts
-use Rattle.run.proofs.State.priority.Reads as priority-reads
 
--- src/ready.rt:105:20
 priority-requires : tie.Need-priority-requires
 priority-requires c κs = search needs
 
--- src/ready.rt:105:40
 priority-requires-2 : tie.Need-priority-requires-2
 priority-requires-2 c κs = search needs
 
--- src/ready.rt:105:13
 returns : tie.Need-returns
 returns c =
     rw (
@@ -28,7 +22,6 @@ returns c =
       c .priority2 .ensures,
     )
 
--- src/ready.rt:101:5
 returns-2 : tie.Need-returns-2
 returns-2 c = search needs
 

@@ -1,18 +1,15 @@
 -- `run::begin::first_steps` meets its contract. The loop's invariant: the places passed are filled. The measure is what is left of the
 -- stations.
 -- Assumes nothing.
-use Rattle.run.proofs.Filled.{filled, filled-none, filled-more}
-use Rattle.rules.specs.Records.{ListRecord, list-record-at}
-use Rattle.rules.specs.Names.{max-stations}
-use native.Mathlib.Omega.{arith}
+use Prim.Native.Nat.{_-_, _≤_}
 use mathlib.Core.Path.{_≡_, ap}
-use Prim.Native.Nat.{ℕ, _-_, _≤_}
+use native.Mathlib.Omega.{arith}
 use borrow.Author.Needs.{needs}
+use Rattle.rules.specs.Names.{max-stations}
+use Rattle.rules.specs.Records.{ListRecord, list-record-at}
+use Rattle.run.proofs.Filled.{filled, filled-none, filled-more}
 use Rattle.run.proofs.begin.first_steps.Statement.{statement}
 use Rattle.run.proofs.begin.first_steps.Tie as tie
-use Rattle.run.proofs.begin.first_steps.Reads as reads
-use Rattle.run.proofs.begin.first_steps.Lts as lts
-use Rattle.record.proofs.ListRecord.at.Reads as at-reads
 
 abbrev Inv-loop : tie.InvT-loop
 Inv-loop list n positions₀ j₀ positions j = (j ≤ n) × (positions ≡ filled (λ k. list-record-at list k .t1) 0 max-stations j)
@@ -20,41 +17,32 @@ Inv-loop list n positions₀ j₀ positions j = (j ≤ n) × (positions ≡ fill
 abbrev μ-loop : tie.MeasureT-loop
 μ-loop list n positions₀ j₀ positions j = n - j
 
--- src/begin.rt:116:5
 loop-holds : tie.Need-loop-holds Inv-loop μ-loop
 loop-holds c = (search needs, filled-none _ 0 max-stations)
 
--- src/begin.rt:117:13
 at-requires : tie.Need-at-requires Inv-loop μ-loop
 at-requires c κs = search needs
 
--- src/begin.rt:118:9
 mul-positions : tie.Need-mul-positions Inv-loop μ-loop
 mul-positions c = search needs
 
--- src/begin.rt:118:9
 array-write-positions : tie.Need-array-write-positions Inv-loop μ-loop
 array-write-positions c = search needs
 
--- src/begin.rt:119:9
 add-j : tie.Need-add-j Inv-loop μ-loop
 add-j c = search needs
 
--- src/begin.rt:116:5
 loop-less : tie.Need-loop-less Inv-loop μ-loop
 loop-less c = search needs
 
--- src/begin.rt:116:5
 loop-again : tie.Need-loop-again Inv-loop μ-loop
 loop-again c =
-    let at = c .before .before in
-    (
+    let at = c .before .before in (
       search needs,
       rw (at .loop .inv .1, ap (λ (e : ListRecord). e .t1) (c .at .ensures))
-      (filled-more (λ k. list-record-at (at .before .before .args .list .now) k .t1) 0 max-stations (at .loop .j) (search needs)),
+          (filled-more (λ k. list-record-at (at .before .before .args .list .now) k .t1) 0 max-stations (at .loop .j) (search needs)),
     )
 
--- src/begin.rt:110:1
 returns : tie.Need-returns Inv-loop μ-loop
 returns c =
     let e : c .before .loop .j ≡ c .before .before .before .args .n = omega arith in

@@ -1,28 +1,20 @@
-use Rattle.rules.specs.List.{stations}
-use lib.ListN.{length}
 use Prim.Native.Nat.{_*_}
--- `run::begin::start` meets its contract: the first test that refuses decides, and past them the resets are read back from the log.
--- Assumes nothing.
-use Rattle.run.proofs.Written.{resets-back}
-use Rattle.fair.proofs.Meaning.{sound-list-means}
-use Rattle.rules.specs.Start as rules
-use Rattle.rules.specs.List.{sound-list}
-use Rattle.rules.specs.Words.{judge}
-use borrow.Author.Tests.{eq-eqb, ne-eqb, lt-ltb, le-ltb, not-true, not-false}
-use native.Mathlib.Omega.{arith}
-use mathlib.Core.Bool.{true}
 use mathlib.Core.Path.{_≡_, sym, _∙_}
+use mathlib.Core.Bool.{true}
+use native.Mathlib.Omega.{arith}
+use lib.ListN.{length}
 use borrow.Author.Needs.{needs}
+use borrow.Author.Tests.{eq-eqb, ne-eqb, lt-ltb, le-ltb, not-true, not-false}
+use Rattle.rules.specs.Words.{judge}
+use Rattle.rules.specs.List.{stations, sound-list}
+use Rattle.rules.specs.Start as rules
+use Rattle.fair.proofs.Meaning.{sound-list-means}
+use Rattle.run.proofs.Written.{resets-back}
 use Rattle.run.proofs.begin.start.Statement.{statement}
 use Rattle.run.proofs.begin.start.Tie as tie
-use Rattle.run.proofs.begin.start.Reads as reads
-use Rattle.run.proofs.begin.start.Lts as lts
-use Rattle.list.proofs.sound.Reads as sound-reads
-use Rattle.list.proofs.stations.Reads as stations-reads
-use Rattle.run.proofs.begin.begun.Reads as begun-reads
-use Rattle.run.proofs.begin.refused.Reads as refused-reads
-use Rattle.run.proofs.begin.within.Reads as within-reads
-use Rattle.run.proofs.begin.write_starts.Reads as write-starts-reads
+
+-- `run::begin::start` meets its contract: the first test that refuses decides, and past them the resets are read back from the log.
+-- Assumes nothing.
 
 -- past the first test the list is sound
 listed : (c : tie.Else1) → sound-list (c .before .before .before .before .before .args .list .now) ≡ true
@@ -33,30 +25,24 @@ counted : (c : tie.Else2) → let a = c .before .before .before .before .before 
     length (a .resets .now) ≡ stations (a .list .now)
 counted c = c .if2 .left ∙ c .before .stations .ensures
 
--- src/begin.rt:26:9
 sound-requires : tie.Need-sound-requires
 sound-requires c κs = search needs
 
--- src/begin.rt:27:9
 refused-requires : tie.Need-refused-requires
 refused-requires c κs = search needs
 
--- src/begin.rt:27:9
 returns : tie.Need-returns
 unfolding rules.start judge
 returns c =
     let tested = c .before in
     rw (c .refused .ensures .0, c .refused .ensures .1, sym (tested .before .sound .ensures) ∙ not-true _ (tested .if1 .taken))
 
--- src/begin.rt:29:9
 stations-requires : tie.Need-stations-requires
 stations-requires c κs = search needs
 
--- src/begin.rt:31:9
 refused-requires-2 : tie.Need-refused-requires-2
 refused-requires-2 c κs = search needs
 
--- src/begin.rt:31:9
 returns-2 : tie.Need-returns-2
 unfolding rules.start judge
 returns-2 c =
@@ -69,15 +55,12 @@ returns-2 c =
       ne-eqb (length (a .resets .now)) (stations (a .list .now)) (λ e. differ .if2 .taken (e ∙ sym (differ .before .stations .ensures))),
     )
 
--- src/begin.rt:33:9
 within-requires : tie.Need-within-requires
 within-requires c κs = search needs
 
--- src/begin.rt:34:9
 refused-requires-3 : tie.Need-refused-requires-3
 refused-requires-3 c κs = search needs
 
--- src/begin.rt:34:9
 returns-3 : tie.Need-returns-3
 unfolding rules.start judge
 returns-3 c =
@@ -91,15 +74,12 @@ returns-3 c =
       sym (high .before .within .ensures) ∙ not-true _ (high .if3 .taken),
     )
 
--- src/begin.rt:36:20
 mul-if4 : tie.Need-mul-if4
 mul-if4 c = search needs
 
--- src/begin.rt:37:9
 refused-requires-4 : tie.Need-refused-requires-4
 refused-requires-4 c κs = search needs
 
--- src/begin.rt:37:9
 returns-4 : tie.Need-returns-4
 unfolding rules.start judge
 returns-4 c =
@@ -116,33 +96,27 @@ returns-4 c =
       lt-ltb (length (a .log .now)) (2 * stations (a .list .now)) (omega (arith, short .if4 .taken, same .before .stations .ensures)),
     )
 
--- src/begin.rt:39:5
 write-starts-requires : tie.Need-write-starts-requires
 write-starts-requires c κs =
     let roomy = c .before in
     let same = roomy .before .before .before in
-    let n = counted same in
-    (
+    let n = counted same in (
       omega (arith, sound-list-means _ (listed (same .before .before)) .few-stations),
       omega (arith, roomy .if4 .left, same .before .stations .ensures),
     )
 
--- src/begin.rt:42:16
 begun-requires : tie.Need-begun-requires
 begun-requires c κs =
     let written = c .before .before .before in
     let roomy = written .before .before in
-    let same = roomy .before .before .before in
-    (
+    let same = roomy .before .before .before in (
       listed (same .before .before),
       omega (arith, written .write-starts .kept .0, roomy .if4 .left, same .before .stations .ensures),
     )
 
--- src/begin.rt:23:1
 same-length : tie.Need-same-length
 same-length c = search needs
 
--- src/begin.rt:23:1
 returns-5 : tie.Need-returns-5
 unfolding rules.start judge
 returns-5 c =

@@ -1,19 +1,17 @@
 -- `run::begin::within` meets its contract. The loop's invariant: each reset passed is at most b. The measure is what is left of them.
 -- Assumes nothing.
-use Rattle.laws.proofs.Places.{each-all, each-not}
-use borrow.Author.Tests.{le-leb, lt-leb}
-use borrow.Author.Count.{below-none, below-more}
-use lib.ListN.{length, getD}
-use lib.Dec.{leb}
-use native.Mathlib.Omega.{arith}
-use mathlib.Core.Bool.{true}
-use mathlib.Core.Path.{_≡_, sym}
 use Prim.Native.Nat.{ℕ, _-_, _≤_, _<_}
+use mathlib.Core.Path.{_≡_, sym}
+use mathlib.Core.Bool.{true}
+use native.Mathlib.Omega.{arith}
+use lib.Dec.{leb}
+use lib.ListN.{length, getD}
 use borrow.Author.Needs.{needs}
+use borrow.Author.Count.{below-none, below-more}
+use borrow.Author.Tests.{le-leb, lt-leb}
+use Rattle.laws.proofs.Places.{each-all, each-not}
 use Rattle.run.proofs.begin.within.Statement.{statement}
 use Rattle.run.proofs.begin.within.Tie as tie
-use Rattle.run.proofs.begin.within.Reads as reads
-use Rattle.run.proofs.begin.within.Lts as lts
 
 abbrev Inv-loop : tie.InvT-loop
 Inv-loop resets b j₀ j = (j ≤ length resets) × ((k : ℕ) → k < j → leb (getD resets k 0) b ≡ true)
@@ -21,34 +19,27 @@ Inv-loop resets b j₀ j = (j ≤ length resets) × ((k : ℕ) → k < j → leb
 abbrev μ-loop : tie.MeasureT-loop
 μ-loop resets b j₀ j = length resets - j
 
--- src/begin.rt:68:5
 loop-holds : tie.Need-loop-holds Inv-loop μ-loop
 loop-holds c = (search needs, below-none _)
 
--- src/begin.rt:69:16
 shared-slice-read-if1 : tie.Need-shared-slice-read-if1 Inv-loop μ-loop
 shared-slice-read-if1 c = search needs
 
--- src/begin.rt:70:13
 returns : tie.Need-returns Inv-loop μ-loop
 returns c =
     let turn = c .before .before in
     sym (each-not _ _ (turn .before .loop .j) (turn .loop-test .taken) (lt-leb _ _ (c .if1 .taken)))
 
--- src/begin.rt:72:9
 add-j : tie.Need-add-j Inv-loop μ-loop
 add-j c = search needs
 
--- src/begin.rt:68:5
 loop-less : tie.Need-loop-less Inv-loop μ-loop
 loop-less c = search needs
 
--- src/begin.rt:68:5
 loop-again : tie.Need-loop-again Inv-loop μ-loop
 loop-again c =
     (search needs, below-more _ _ (c .before .before .before .loop .inv .1) (le-leb _ _ (c .if1 .left)))
 
--- src/begin.rt:64:1
 returns-2 : tie.Need-returns-2 Inv-loop μ-loop
 returns-2 c = sym (each-all _ _ (λ k l. c .before .loop .inv .1 k (omega arith)))
 

@@ -1,19 +1,17 @@
 -- `run::begin::write_starts` meets its contract. The loop's invariant: the start records of the stations passed are written. The measure
 -- is what is left of the resets.
 -- Assumes nothing.
-use Rattle.run.proofs.Written.{starts-more}
-use Rattle.rules.specs.Start.{start-records}
-use Rattle.rules.specs.Words.{written}
-use lib.Seq.{take-all}
-use lib.ListN.{length, take, length-set}
-use native.Mathlib.Omega.{arith}
-use mathlib.Core.Path.{_≡_, refl, _∙_}
 use Prim.Native.Nat.{_-_, _≤_}
+use mathlib.Core.Path.{_≡_, refl}
+use native.Mathlib.Omega.{arith}
+use lib.ListN.{length, take, length-set}
+use lib.Seq.{take-all}
 use borrow.Author.Needs.{needs}
+use Rattle.rules.specs.Words.{written}
+use Rattle.rules.specs.Start.{start-records}
+use Rattle.run.proofs.Written.{starts-more}
 use Rattle.run.proofs.begin.write_starts.Statement.{statement}
 use Rattle.run.proofs.begin.write_starts.Tie as tie
-use Rattle.run.proofs.begin.write_starts.Reads as reads
-use Rattle.run.proofs.begin.write_starts.Lts as lts
 
 abbrev Inv-loop : tie.InvT-loop
 Inv-loop log₀ resets j₀ log j =
@@ -22,62 +20,49 @@ Inv-loop log₀ resets j₀ log j =
 abbrev μ-loop : tie.MeasureT-loop
 μ-loop log₀ resets j₀ log j = length resets - j
 
--- src/begin.rt:83:5
 loop-holds : tie.Need-loop-holds Inv-loop μ-loop
 unfolding written start-records
 loop-holds c = (search needs, refl, refl)
 
--- src/begin.rt:84:18
 mul-at : tie.Need-mul-at Inv-loop μ-loop
 mul-at c = search needs
 
--- src/begin.rt:85:19
 cast-log : tie.Need-cast-log Inv-loop μ-loop
 cast-log c = search needs
 
--- src/begin.rt:85:9
 slice-write-log : tie.Need-slice-write-log Inv-loop μ-loop
 slice-write-log c = search needs
 
--- src/begin.rt:86:23
 shared-slice-read-log : tie.Need-shared-slice-read-log Inv-loop μ-loop
 shared-slice-read-log c = search needs
 
--- src/begin.rt:86:13
 add-log : tie.Need-add-log Inv-loop μ-loop
 add-log c = search needs
 
--- src/begin.rt:86:9
 slice-write-log-2 : tie.Need-slice-write-log-2 Inv-loop μ-loop
 slice-write-log-2 c =
     let turn = c .before in
     simp length-set (omega (arith, turn .loop-test .taken, turn .before .loop .inv .1, turn .before .before .pre .1))
 
--- src/begin.rt:87:9
 add-j : tie.Need-add-j Inv-loop μ-loop
 add-j c = search needs
 
--- src/begin.rt:83:5
 loop-less : tie.Need-loop-less Inv-loop μ-loop
 loop-less c = search needs
 
--- src/begin.rt:83:5
 loop-again : tie.Need-loop-again Inv-loop μ-loop
 loop-again c =
     let turn = c .before in
     let start = turn .before .before in
-    let inv = turn .before .loop .inv in
-    (
+    let inv = turn .before .loop .inv in (
       search needs,
       simp length-set (inv .1),
       rw (inv .2) (starts-more _ _ _ (turn .loop-test .taken) (start .pre .1)),
     )
 
--- src/begin.rt:78:1
 same-length : tie.Need-same-length Inv-loop μ-loop
 same-length c = search needs
 
--- src/begin.rt:78:1
 returns : tie.Need-returns Inv-loop μ-loop
 returns c =
     let a = c .before .before .args in
