@@ -54,14 +54,15 @@ module _ (file : List ℕ) (bytes : (i : ℕ) → getD file i 0 < 256) (accepted
   computed (by-start b resets log e) = starting b resets log e
   computed (by-step {steps = steps} p log m e) =
       let h = standing m in
-      let f = step-fair (built file) (top steps) log p (h .1) e in
-      (computed m,
-      record {
-        moves = taken-moves file bytes accepted (top steps) log p e;
-        enabled = ready-enabled file bytes accepted (top steps) (sound-standing file bytes accepted (top steps) (h .0));
-        checked = f .0;
-        updated = f .1;
-      })
+      let f = step-fair (built file) (top steps) log p (h .1) e in (
+        computed m,
+        record {
+          moves = taken-moves file bytes accepted (top steps) log p e;
+          enabled = ready-enabled file bytes accepted (top steps) (sound-standing file bytes accepted (top steps) (h .0));
+          checked = f .0;
+          updated = f .1;
+        },
+      )
 
   pub computes : (s : State) (log : List ℕ) (calls : List Call) (steps : Steps) → history (built file) s log calls .standing ≡ some steps
       → Computation file steps

@@ -96,9 +96,9 @@ module _ (f : List ℕ → State → List ℕ → Pick → Stepped) (promise : (
   pub step-goes-on : ((list : List ℕ) (s : State) (log : List ℕ) (p : Pick) → 1 ≤ s .m → f list s log p .state ≡ only-m s) → ⊥
   step-goes-on h =
       let a : _≡_ {A = ℕ} 1 2 =
-          ap (λ (s : State). getD (s .vars) 0 0) (sym (h list after-one log (pick 1) (omega arith)))
-          ∙ ap (λ (a : Stepped). getD (a .state .vars) 0 0) (promise list after-one log (pick 1))
-          ∙ ap (λ (l : List ℕ). getD l 0 0) second-step in
+      ap (λ (s : State). getD (s .vars) 0 0) (sym (h list after-one log (pick 1) (omega arith)))
+      ∙ ap (λ (a : Stepped). getD (a .state .vars) 0 0) (promise list after-one log (pick 1))
+      ∙ ap (λ (l : List ℕ). getD l 0 0) second-step in
       omega arith
 
 -- START
@@ -161,17 +161,17 @@ module _ (f : List ℕ → State → List ℕ → List ℕ → ℕ → Ran)
   pub run-writes : ((list : List ℕ) (s : State) (log picks : List ℕ) (most : ℕ) → f list s log picks most .log ≡ log) → ⊥
   run-writes h =
       let a : _≡_ {A = ℕ} 9 0 =
-          ap (λ (l : List ℕ). getD l 4 0) (sym (h list at-start log (0 ∷ 0 ∷ 1 ∷ 0 ∷ []) 5) ∙ ap (λ (a : Ran). a .log) (promise list at-start log (0 ∷ 0 ∷ 1 ∷ 0 ∷ []) 5)) ∙ both-logged in
+      ap (λ (l : List ℕ). getD l 4 0) (sym (h list at-start log (0 ∷ 0 ∷ 1 ∷ 0 ∷ []) 5) ∙ ap (λ (a : Ran). a .log) (promise list at-start log (0 ∷ 0 ∷ 1 ∷ 0 ∷ []) 5)) ∙ both-logged in
       omega arith
 
   -- the first step true, and from then on only m
   pub run-goes-on : ((list : List ℕ) (s : State) (log picks : List ℕ) (most : ℕ) → f list s log picks most .state .vars ≡ step list s log (record { station = getD picks 0 0; reset = getD picks 1 0 }) .state .vars) → ⊥
   run-goes-on h =
       let a : _≡_ {A = ℕ} 1 2 =
-          ap (λ (a : Stepped). getD (a .state .vars) 0 0) (sym first-step)
-          ∙ ap (λ (l : List ℕ). getD l 0 0) (sym (h list at-start log (0 ∷ 0 ∷ 1 ∷ 0 ∷ []) 5))
-          ∙ ap (λ (a : Ran). getD (a .state .vars) 0 0) (promise list at-start log (0 ∷ 0 ∷ 1 ∷ 0 ∷ []) 5)
-          ∙ both-vars in
+      ap (λ (a : Stepped). getD (a .state .vars) 0 0) (sym first-step)
+      ∙ ap (λ (l : List ℕ). getD l 0 0) (sym (h list at-start log (0 ∷ 0 ∷ 1 ∷ 0 ∷ []) 5))
+      ∙ ap (λ (a : Ran). getD (a .state .vars) 0 0) (promise list at-start log (0 ∷ 0 ∷ 1 ∷ 0 ∷ []) 5)
+      ∙ both-vars in
       omega arith
 
   -- a number of steps that is invented: any function of the picks alone is wrong where the picks are refused
@@ -179,9 +179,9 @@ module _ (f : List ℕ → State → List ℕ → List ℕ → ℕ → Ran)
   unfolding judge stations first sound-list run
   run-counts g h =
       let a : g (0 ∷ 0 ∷ 1 ∷ 0 ∷ []) 5 ≡ 2 =
-          sym (h list at-start log (0 ∷ 0 ∷ 1 ∷ 0 ∷ []) 5) ∙ ap (λ (a : Ran). a .steps) (promise list at-start log (0 ∷ 0 ∷ 1 ∷ 0 ∷ []) 5) ∙ both-steps in
+      sym (h list at-start log (0 ∷ 0 ∷ 1 ∷ 0 ∷ []) 5) ∙ ap (λ (a : Ran). a .steps) (promise list at-start log (0 ∷ 0 ∷ 1 ∷ 0 ∷ []) 5) ∙ both-steps in
       let b : g (0 ∷ 0 ∷ 1 ∷ 0 ∷ []) 5 ≡ 0 =
-          sym (h [] at-start log (0 ∷ 0 ∷ 1 ∷ 0 ∷ []) 5) ∙ ap (λ (a : Ran). a .steps) (promise [] at-start log (0 ∷ 0 ∷ 1 ∷ 0 ∷ []) 5) in
+      sym (h [] at-start log (0 ∷ 0 ∷ 1 ∷ 0 ∷ []) 5) ∙ ap (λ (a : Ran). a .steps) (promise [] at-start log (0 ∷ 0 ∷ 1 ∷ 0 ∷ []) 5) in
       omega arith
 
 -- UNDO of the first step, with the log that it left
@@ -210,8 +210,8 @@ module _ (f : List ℕ → State → List ℕ → Undone) (promise : (list : Lis
   pub undo-takes-back : ((list : List ℕ) (s : State) (log : List ℕ) → f list s log .state .vars ≡ s .vars) → ⊥
   undo-takes-back h =
       let a : _≡_ {A = ℕ} 1 0 =
-          ap (λ (l : List ℕ). getD l 0 0) (sym (h list after-one logged))
-          ∙ ap (λ (a : Undone). getD (a .state .vars) 0 0) (promise list after-one logged ∙ undone) in
+      ap (λ (l : List ℕ). getD l 0 0) (sym (h list after-one logged))
+      ∙ ap (λ (a : Undone). getD (a .state .vars) 0 0) (promise list after-one logged ∙ undone) in
       omega arith
 
 -- LIGHTS at the start and after the first step

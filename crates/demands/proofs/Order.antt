@@ -88,9 +88,9 @@ build-order file buffer =
     build-number file buffer
     ∙ by-test (eqb (judge (check-tests file) .number) 0)
     (λ e.
-        ap (λ (a : Answer). a .number) (judge-then (check-tests file) (room-test file buffer) (numbered file) (eqb-true _ 0 e))
-        ∙ room-number (ltb (length buffer) (16 * length (list-records file)))
-        ∙ sym (if-yes _ _ e))
+    ap (λ (a : Answer). a .number) (judge-then (check-tests file) (room-test file buffer) (numbered file) (eqb-true _ 0 e))
+    ∙ room-number (ltb (length buffer) (16 * length (list-records file)))
+    ∙ sym (if-yes _ _ e))
     (λ e. ap (λ (a : Answer). a .number) (judge-before (check-tests file) (room-test file buffer) (eqb-false _ 0 e)) ∙ sym (if-no _ _ e))
 
 -- before any step a run has only its own tests
