@@ -5,6 +5,7 @@ ghost use Rattle.build.specs.View.{as-built};
 use record::Record;
 
 // What building answers: 0 or the number of the refusal, the place of a record, and the count of list records, 0 where it refuses.
+#[repr(C)]
 pub struct Built {
     pub number: u8,
     pub place: u16,

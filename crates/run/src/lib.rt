@@ -21,6 +21,7 @@ const MAX_STEPS: u16 = 4096;
 
 // What a run has reached: the variables, each station's position and priority, the number of stations n, the largest reset b, and the
 // number of standing steps m.
+#[repr(C)]
 pub struct State {
     pub vars: [u32; 32],
     pub positions: [u16; 8],
@@ -31,18 +32,21 @@ pub struct State {
 }
 
 // What a start answers: 0 and the state with no steps, or a refusal's number and a state of zeros.
+#[repr(C)]
 pub struct Started {
     pub number: u8,
     pub state: State,
 }
 
 // What a step answers: 0 and the state after it, or a refusal's number and the state given.
+#[repr(C)]
 pub struct Stepped {
     pub number: u8,
     pub state: State,
 }
 
 // What a run answers: 0 or the refusal that ended it, the state reached, and the steps taken.
+#[repr(C)]
 pub struct Ran {
     pub number: u8,
     pub state: State,
@@ -50,6 +54,7 @@ pub struct Ran {
 }
 
 // What an undo answers: 0 and the state before the last step, or a refusal's number and the state given.
+#[repr(C)]
 pub struct Undone {
     pub number: u8,
     pub state: State,

@@ -19,6 +19,7 @@ const MAX_RECORDS: usize = 1024;
 const MAX_STATIONS: usize = 8;
 
 // What checking answers: 0 or the number of the refusal, and the place of a record.
+#[repr(C)]
 pub struct Checked {
     pub number: u8,
     pub place: u16,

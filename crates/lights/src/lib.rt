@@ -1,0 +1,45 @@
+// The lights: which stations are ready, in turn, waiting and ended, and which read and write each variable next, of any list and any state
+// whatever. `answer` has what they answer, `masks` how it is gathered.
+ghost use mathlib.Core.Path.{_≡_};
+ghost use Rattle.rules.specs.Lights as rules;
+ghost use Rattle.run.specs.View.{as-state};
+ghost use Rattle.lights.specs.View.{as-lights, refused-by};
+use masks::Masks;
+use record::Record;
+use run::State;
+
+mod answer;
+mod masks;
+
+pub use answer::Lights;
+
+// The lights of a state. Refused, all zeros but the number: LIST where the list is not sound, STATE where the state is not.
+pub fn lights(state: State, list: &[u8]) -> Lights
+    ensures { λ r. ⌜ as-lights r ≡ rules.lights (now (list .entry)) (as-state state) ⌝ }
+{
+    if !list::sound(list) {
+        return refused(Record::LIST);
+    }
+    if !state.sound(list) {
+        return refused(Record::STATE);
+    }
+    let masks = Masks::of(state, list);
+    let reads = masks.reads;
+    let writes = masks.writes;
+    Lights::of(
+        0,
+        masks.ready,
+        masks.in_turn,
+        masks.waiting,
+        masks.ended,
+        [reads, writes],
+    )
+}
+
+// The answer of a refusal.
+fn refused(number: u8) -> Lights
+    ensures { λ r. ⌜ as-lights r ≡ refused-by number ⌝ }
+{
+    let dark = [0u8; 32];
+    Lights::of(number, 0, 0, 0, 0, [dark, dark])
+}

@@ -1,0 +1,26 @@
+-- What a refused step says of the state: it is the state given. Assumes nothing.
+use mathlib.Core.Path.{_≡_, refl, sym, ap, _∙_}
+use mathlib.Core.Bool.{Bool, true, false, not}
+use mathlib.Core.List.{List}
+use Prim.Native.Nat.{ℕ}
+use lib.Dec.{T as Holds, eqb}
+use Rattle.rules.specs.Records.{Pick}
+use Rattle.rules.specs.State as rules-state
+use Rattle.rules.specs.Step as rules
+use Rattle.fair.proofs.Taken.{step-refused}
+use Rattle.run.specs.declared.State.{State}
+use Rattle.run.specs.declared.Stepped.{Stepped}
+use Rattle.run.specs.View.{as-state, as-stepped}
+use Rattle.panel.specs.View.{as-advanced}
+
+fails : (y : Bool) → Holds (not y) → y ≡ false
+fails true t = absurd t
+fails false t = refl
+
+-- where the number of a step's answer is not 0, the step leaves the state that it was given
+pub stays : (s : State) (list log : List ℕ) (p : Pick) (r : Stepped) (after : List ℕ) → as-stepped r after ≡ rules.step list (as-state s) log p
+    → Holds (not (eqb (r .number) 0)) → as-advanced (r .number) s after ≡ rules.step list (as-state s) log p
+stays s list log p r after e t =
+    let number = ap (λ (a : rules.Stepped). a .number) e in
+    let given = step-refused list (as-state s) log p (rw (← number) (fails _ t)) in
+    ap (λ (x : rules-state.State). record { number = r .number; state = x; log = after }) (sym given ∙ sym (ap (λ (a : rules.Stepped). a .state) e)) ∙ e

@@ -1,0 +1,36 @@
+-- `touches::Touched::of` meets its contract: the record itself, and at an AWAIT its body too.
+-- Assumes nothing.
+use mathlib.Core.Path.{_∙_}
+use borrow.Author.Needs.{needs}
+use borrow.Author.Tests.{eq-eqb, ne-eqb}
+use Rattle.record.specs.View.{as-list-record}
+use Rattle.touches.proofs.Variables.{touched-itself, touched-await}
+use Rattle.touches.proofs.Touched.of.Statement.{statement}
+use Rattle.touches.proofs.Touched.of.Tie as tie
+
+with-record-requires : tie.Need-with-record-requires
+with-record-requires c κs = search needs
+
+cast-with-body : tie.Need-cast-with-body
+cast-with-body c = search needs
+
+with-body-requires : tie.Need-with-body-requires
+with-body-requires c κs = search needs
+
+returns : tie.Need-returns
+returns c =
+    let tested = c .before .before in
+    let itself = tested .before .before in
+    let a = itself .before .before .before .args in
+    c .with-body .ensures
+    ∙ rw (itself .with-record .ensures) (touched-await (a .list .now) (as-list-record (a .e)) (eq-eqb _ _ (tested .if1 .taken)))
+
+returns-2 : tie.Need-returns-2
+returns-2 c =
+    let itself = c .before .before in
+    let a = itself .before .before .before .args in
+    itself .with-record .ensures ∙ touched-itself (a .list .now) (as-list-record (a .e)) (ne-eqb _ _ (c .if1 .left))
+
+pub of-spec : {M : Type 1} → statement M
+of-spec =
+    tie.close (tie.spec with-record-requires cast-with-body with-body-requires returns returns-2)

@@ -1,0 +1,142 @@
+// Which variables a station's next step touches: what it reads and what it writes, itself and, at an AWAIT, in its body.
+ghost use mathlib.Core.Path.{_≡_};
+ghost use mathlib.Core.Bool.{_&&_};
+ghost use mathlib.Core.List.{[], _∷_};
+ghost use Prim.Native.Nat.{_≤_};
+ghost use lib.Dec.{eqb};
+ghost use lib.ListN.{length};
+ghost use Rattle.rules.specs.Words.{among};
+ghost use Rattle.rules.specs.Names.{IF, WHILE, AWAIT, max-list};
+ghost use Rattle.record.specs.View.{as-record, as-list-record};
+ghost use Rattle.touches.specs.Touched.{searched, body-within, touched-by, reads-b, reads-k, added, with-record, with-places, Wants};
+use record::ListRecord;
+use record::Record;
+
+// Variables are numbered from 0 to 31.
+const VARIABLES: u32 = 32;
+
+// Records of a list that are searched for a body, at most: a sound list has no more.
+const MAX_LIST: usize = 1032;
+
+// What is touched: variable v is read, or written, where its place v says so.
+pub struct Touched {
+    pub reads: [bool; 32],
+    pub writes: [bool; 32],
+}
+
+impl Touched {
+    // What e, a station's next step, touches. Of a list of more than 1,032 records a body has only records among the first 1,032.
+    pub fn of(list: &[u8], e: ListRecord) -> Touched
+        ensures { λ r. ⌜ r ≡ touched-by (now (list .entry)) (as-list-record e) ⌝ }
+    {
+        let own = e.own;
+        let nothing = Touched {
+            reads: [false; 32],
+            writes: [false; 32],
+        };
+        let itself = nothing.with_record(own);
+        if own.kind == Record::AWAIT {
+            return itself.with_body(list, e.t1 as usize);
+        }
+        itself
+    }
+
+    // What was touched, and what a record touches too.
+    fn with_record(self, own: Record) -> Touched
+        ensures { λ r. ⌜ r ≡ with-record self (as-record own) ⌝ }
+    {
+        let read = self.reads;
+        let written = self.writes;
+        let with_b = added(read, reads_b(own), own.b as u32);
+        let reads = added(with_b, reads_k(own), own.k);
+        let writes = added(written, own.kind == Record::SET, own.a as u32);
+        Touched { reads, writes }
+    }
+
+    // What was touched, and what the body that starts at t1 touches too: one pass upward, which ends past the last place that is wanted.
+    fn with_body(mut self, list: &[u8], t1: usize) -> Touched
+        ensures { λ r. ⌜ r ≡ with-places (now (list .entry)) self (body-within (now (list .entry)) t1) ⌝ }
+    {
+        let count = searched(list);
+        let mut wanted = [false; MAX_LIST];
+        let mut end = want(&mut wanted, 0, count, t1);
+        let mut place = t1;
+        while place < end {
+            if wanted[place] {
+                let e = ListRecord::at(list, place);
+                self = self.with_record(e.own);
+                end = want(&mut wanted, end, count, e.t1 as usize);
+                end = want(&mut wanted, end, count, e.t2 as usize);
+            }
+            place += 1;
+        }
+        self
+    }
+}
+
+// The number of records that are searched for a body.
+fn searched(list: &[u8]) -> usize
+    ensures { λ r. ⌜ r ≡ searched (now (list .entry)) ⌝ }
+{
+    let count = list.len() / 16;
+    if count <= MAX_LIST {
+        return count;
+    }
+    MAX_LIST
+}
+
+// A target t is wanted too, where it lies below count. Answers the end of the places wanted.
+fn want(wanted: &mut [bool; MAX_LIST], end: usize, count: usize, t: usize) -> usize
+    requires { ⌜ (end ≤ count) × (count ≤ max-list) × (length (now wanted) ≡ max-list) ⌝ }
+    ensures { λ r. ⌜ Wants count t end (now (wanted .entry)) r (now (wanted .exit)) ⌝ }
+{
+    if t < count {
+        wanted[t] = true;
+        if end <= t {
+            return t + 1;
+        }
+    }
+    end
+}
+
+// What was touched, and variable v too where the test holds. No variable is above 31.
+fn added(before: [bool; 32], test: bool, v: u32) -> [bool; 32]
+    ensures { λ r. ⌜ r ≡ added before (λ i. test && eqb v i) ⌝ }
+{
+    let mut after = before;
+    if test {
+        if v < VARIABLES {
+            after[v as usize] = true;
+        }
+    }
+    after
+}
+
+// Whether a record reads the variable b.
+fn reads_b(own: Record) -> bool
+    ensures { λ r. ⌜ r ≡ reads-b (as-record own) ⌝ }
+{
+    let op = own.op;
+    if own.kind == Record::SET {
+        return (op == 1) | (op == 2) | (op == 3) | (op == 4) | (op == 5);
+    }
+    tests(own.kind)
+}
+
+// Whether a record reads the variable k.
+fn reads_k(own: Record) -> bool
+    ensures { λ r. ⌜ r ≡ reads-k (as-record own) ⌝ }
+{
+    let op = own.op;
+    if own.kind == Record::SET {
+        return (op == 4) | (op == 5);
+    }
+    tests(own.kind) & (4 <= op)
+}
+
+// Whether a record of this kind has a condition.
+fn tests(kind: u8) -> bool
+    ensures { λ r. ⌜ r ≡ among kind (IF ∷ WHILE ∷ AWAIT ∷ []) ⌝ }
+{
+    (kind == Record::IF) | (kind == Record::WHILE) | (kind == Record::AWAIT)
+}

@@ -1,0 +1,2209 @@
+/*
+ * cases.c - writes a stream of cases, or answers one.
+ *
+ *   cases write SEED        writes the stream for the seed to standard output
+ *                           and a table of call x number to standard error;
+ *                           ends with 1 where a number that the document
+ *                           allows a call was never reached, or one that it
+ *                           does not allow was
+ *   cases answer            reads a stream and prints one line a case
+ *   cases soak SEED ROUNDS  makes random cases, writes nothing, and prints
+ *                           the table
+ *
+ * The stream has no header.  A case is one byte for the call (1 check,
+ * 2 build, 3 start, 4 step, 5 run, 6 undo, 7 lights, 8 trace), then the call's
+ * fields in order, each as a 2-byte length, low byte first, and its bytes:
+ *
+ *   1 check   file
+ *   2 build   file, buffer
+ *   3 start   list, B (1 byte), resets, log
+ *   4 step    list, state, log, station and reset (2 bytes)
+ *   5 run     list, state, log, picks, most (8 bytes, low byte first)
+ *   6 undo    list, state, log
+ *   7 lights  list, state
+ *   8 trace   program, start, picks
+ *
+ * A state is 164 bytes: 32 variables of 4, 8 positions of 2, 8 priorities of
+ * 2 (two's complement), n, B, m of 2; low bytes first.
+ *
+ * An answer line is the call's number and, in decimal with single spaces:
+ *
+ *   1 number place                     5 number steps H(state) H(log)
+ *   2 number place count H(buffer)     6 number H(state)
+ *   3 number H(state) H(log)           7 number ready in-turn waiting ended
+ *   4 number H(state) H(log)             H(the 64 bytes of the rows)
+ *                                      8 length H(text)
+ *
+ * H is 7 at first and for each byte b becomes h * 31 + b + 1 mod 2^32.
+ */
+#include <stdio.h>
+#include <stdlib.h>
+#include <string.h>
+
+#include "press.h"
+#include "random.h"
+
+enum call { CHECK = 1, BUILD, START, STEP, RUN, UNDO, LIGHTS, TRACE };
+
+enum { STATE_BYTES = 164, MAX_FIELDS = 5, NUMBERS = 16, CALLS = 9,
+       ROUNDS = 75 };
+
+static const char *const call_name[CALLS] = {
+    "", "check", "build", "start", "step", "run", "undo", "lights", "trace"
+};
+
+static const uint8_t field_count[CALLS] = { 0, 1, 2, 4, 4, 5, 3, 2, 3 };
+
+/* The numbers that the document allows each call.  The trace's own buffers
+ * are never short, its lists and states are sound, 4,096 picks never fill it
+ * past the last, and its log is its own: it has no 6, 7, 8, 9, 15. */
+static const uint8_t allowed[CALLS][NUMBERS] = {
+    /*           0  1  2  3  4  5  6  7  8  9 10 11 12 13 14 15 */
+    { 0 },
+    /* check */ { 1, 1, 1, 1, 1, 1 },
+    /* build */ { 1, 1, 1, 1, 1, 1, 1 },
+    /* start */ { 1, 0, 0, 0, 0, 0, 1, 1, 0, 0, 0, 0, 0, 1 },
+    /* step  */ { 1, 0, 0, 0, 0, 0, 1, 1, 1, 1, 1, 1, 1, 1 },
+    /* run   */ { 1, 1, 0, 0, 0, 0, 1, 1, 1, 1, 1, 1, 1, 1 },
+    /* undo  */ { 1, 0, 0, 0, 0, 0, 0, 1, 1, 0, 0, 0, 0, 0, 1, 1 },
+    /* lights*/ { 1, 0, 0, 0, 0, 0, 0, 1, 1 },
+    /* trace */ { 1, 1, 1, 1, 1, 1, 0, 0, 0, 0, 1, 1, 1, 1, 1 }
+};
+
+static void die(const char *why)
+{
+    fprintf(stderr, "cases: %s\n", why);
+    exit(2);
+}
+
+static void *room(size_t len)
+{
+    void *p = malloc(len > 0 ? len : 1);
+
+    if (p == NULL)
+        die("no memory");
+    return p;
+}
+
+/* ------------------------------------------------------------------ */
+/* States as bytes, and H                                             */
+/* ------------------------------------------------------------------ */
+
+static void pack_state(const struct ind_state *s, uint8_t out[STATE_BYTES])
+{
+    uint8_t *p = out;
+
+    for (int i = 0; i < IND_VARS; i++)
+        for (int j = 0; j < 4; j++)
+            *p++ = (uint8_t)(s->var[i] >> 8 * j & 255);
+    for (int i = 0; i < IND_STATIONS; i++) {
+        *p++ = (uint8_t)(s->pos[i] & 255);
+        *p++ = (uint8_t)(s->pos[i] >> 8);
+    }
+    for (int i = 0; i < IND_STATIONS; i++) {
+        uint16_t pri = (uint16_t)s->pri[i];
+
+        *p++ = (uint8_t)(pri & 255);
+        *p++ = (uint8_t)(pri >> 8);
+    }
+    *p++ = s->n;
+    *p++ = s->b;
+    *p++ = (uint8_t)(s->m & 255);
+    *p++ = (uint8_t)(s->m >> 8);
+}
+
+static struct ind_state unpack_state(const uint8_t in[STATE_BYTES])
+{
+    struct ind_state s;
+    const uint8_t *p = in;
+
+    for (int i = 0; i < IND_VARS; i++) {
+        s.var[i] = 0;
+        for (int j = 0; j < 4; j++)
+            s.var[i] |= (uint32_t)*p++ << 8 * j;
+    }
+    for (int i = 0; i < IND_STATIONS; i++, p += 2)
+        s.pos[i] = (uint16_t)(p[0] | p[1] << 8);
+    for (int i = 0; i < IND_STATIONS; i++, p += 2) {
+        int pri = p[0] | p[1] << 8;
+
+        s.pri[i] = (int16_t)(pri >= 32768 ? pri - 65536 : pri);
+    }
+    s.n = p[0];
+    s.b = p[1];
+    s.m = (uint16_t)(p[2] | p[3] << 8);
+    return s;
+}
+
+static uint32_t hash(const uint8_t *p, size_t len)
+{
+    uint32_t h = 7;
+
+    for (size_t i = 0; i < len; i++)
+        h = h * 31 + p[i] + 1;
+    return h;
+}
+
+static uint32_t hash_state(const struct ind_state *s)
+{
+    uint8_t bytes[STATE_BYTES];
+
+    pack_state(s, bytes);
+    return hash(bytes, sizeof bytes);
+}
+
+/* ------------------------------------------------------------------ */
+/* Reading and answering a case                                       */
+/* ------------------------------------------------------------------ */
+
+/* Each field has memory of its own of just its length. */
+struct one {
+    uint8_t call;
+    struct {
+        uint8_t *p;
+        size_t len;
+    } f[MAX_FIELDS];
+};
+
+/* Reads the case at *at and moves *at past it.  Answers 0 where the stream is
+ * no stream of cases. */
+static int take_case(struct one *c, const uint8_t *bytes, size_t len,
+                     size_t *at)
+{
+    if (*at >= len || bytes[*at] < CHECK || bytes[*at] > TRACE)
+        return 0;
+    memset(c, 0, sizeof *c);
+    c->call = bytes[(*at)++];
+    for (int i = 0; i < field_count[c->call]; i++) {
+        size_t n;
+
+        if (len - *at < 2)
+            return 0;
+        n = (size_t)bytes[*at] | (size_t)bytes[*at + 1] << 8;
+        *at += 2;
+        if (len - *at < n)
+            return 0;
+        c->f[i].p = room(n);
+        c->f[i].len = n;
+        memcpy(c->f[i].p, bytes + *at, n);
+        *at += n;
+    }
+    switch (c->call) {
+    case START:
+        return c->f[1].len == 1;
+    case STEP:
+        return c->f[1].len == STATE_BYTES && c->f[3].len == 2;
+    case RUN:
+        return c->f[1].len == STATE_BYTES && c->f[4].len == 8;
+    case UNDO:
+    case LIGHTS:
+        return c->f[1].len == STATE_BYTES;
+    default:
+        return 1;
+    }
+}
+
+static void drop_case(struct one *c)
+{
+    for (int i = 0; i < MAX_FIELDS; i++)
+        free(c->f[i].p);
+}
+
+/* Stops the program unless a refusal left the lent bytes and the state as the
+ * document says: "the state given (start and lights: all zeros) and writes to
+ * no lent buffer". */
+static void hold(uint8_t number, const uint8_t *then, const uint8_t *now,
+                 size_t len, const struct ind_state *want,
+                 const struct ind_state *got)
+{
+    uint8_t x[STATE_BYTES], y[STATE_BYTES];
+
+    if (number == IND_FINE)
+        return;
+    if (memcmp(then, now, len) != 0)
+        die("a refusal wrote to a lent buffer");
+    if (want != NULL) {
+        pack_state(want, x);
+        pack_state(got, y);
+        if (memcmp(x, y, STATE_BYTES) != 0)
+            die("a refusal changed the state");
+    }
+}
+
+/* Answers the case, prints its line where `out` is not null, and gives back
+ * the number that it was answered with (of a trace: that of its last line). */
+static uint8_t answer_case(struct one *c, FILE *out)
+{
+    static const struct ind_state zero;
+    uint8_t number = 0, *then = NULL;
+    size_t lent = 0;
+
+    if (c->call == BUILD)
+        lent = 1;
+    else if (c->call == START)
+        lent = 3;
+    else if (c->call >= STEP && c->call <= UNDO)
+        lent = 2;
+    then = room(c->f[lent].len);
+    if (c->f[lent].len > 0)
+        memcpy(then, c->f[lent].p, c->f[lent].len);
+
+    switch (c->call) {
+    case CHECK: {
+        struct ind_check_answer a = ind_check(c->f[0].p, c->f[0].len);
+
+        number = a.number;
+        if (out != NULL)
+            fprintf(out, "1 %u %u\n", a.number, a.place);
+        break;
+    }
+    case BUILD: {
+        struct ind_build_answer a = ind_build(c->f[0].p, c->f[0].len,
+                                              c->f[1].p, c->f[1].len);
+
+        number = a.number;
+        hold(number, then, c->f[1].p, c->f[1].len, NULL, NULL);
+        if (out != NULL)
+            fprintf(out, "2 %u %u %u %lu\n", a.number, a.place, a.count,
+                    (unsigned long)hash(c->f[1].p, c->f[1].len));
+        break;
+    }
+    case START: {
+        struct ind_state_answer a = ind_start(c->f[0].p, c->f[0].len,
+                                              c->f[1].p[0],
+                                              c->f[2].p, c->f[2].len,
+                                              c->f[3].p, c->f[3].len);
+
+        number = a.number;
+        hold(number, then, c->f[3].p, c->f[3].len, &zero, &a.state);
+        if (out != NULL)
+            fprintf(out, "3 %u %lu %lu\n", a.number,
+                    (unsigned long)hash_state(&a.state),
+                    (unsigned long)hash(c->f[3].p, c->f[3].len));
+        break;
+    }
+    case STEP: {
+        struct ind_state given = unpack_state(c->f[1].p);
+        struct ind_state_answer a = ind_step(c->f[0].p, c->f[0].len, given,
+                                             c->f[2].p, c->f[2].len,
+                                             c->f[3].p[0], c->f[3].p[1]);
+
+        number = a.number;
+        hold(number, then, c->f[2].p, c->f[2].len, &given, &a.state);
+        if (out != NULL)
+            fprintf(out, "4 %u %lu %lu\n", a.number,
+                    (unsigned long)hash_state(&a.state),
+                    (unsigned long)hash(c->f[2].p, c->f[2].len));
+        break;
+    }
+    case RUN: {
+        struct ind_state given = unpack_state(c->f[1].p);
+        struct ind_run_answer a;
+        uint64_t most = 0;
+
+        for (int i = 0; i < 8; i++)
+            most |= (uint64_t)c->f[4].p[i] << 8 * i;
+        if (most > SIZE_MAX)
+            most = SIZE_MAX;
+        a = ind_run(c->f[0].p, c->f[0].len, given, c->f[2].p, c->f[2].len,
+                    c->f[3].p, c->f[3].len, (size_t)most);
+        number = a.number;
+        if (a.steps == 0)
+            hold(number, then, c->f[2].p, c->f[2].len, &given, &a.state);
+        if (out != NULL)
+            fprintf(out, "5 %u %lu %lu %lu\n", a.number,
+                    (unsigned long)a.steps,
+                    (unsigned long)hash_state(&a.state),
+                    (unsigned long)hash(c->f[2].p, c->f[2].len));
+        break;
+    }
+    case UNDO: {
+        struct ind_state given = unpack_state(c->f[1].p);
+        struct ind_state_answer a = ind_undo(c->f[0].p, c->f[0].len, given,
+                                             c->f[2].p, c->f[2].len);
+
+        number = a.number;
+        hold(number, then, c->f[2].p, c->f[2].len, &given, &a.state);
+        if (out != NULL)
+            fprintf(out, "6 %u %lu\n", a.number,
+                    (unsigned long)hash_state(&a.state));
+        break;
+    }
+    case LIGHTS: {
+        struct ind_lights_answer a = ind_lights(c->f[0].p, c->f[0].len,
+                                                unpack_state(c->f[1].p));
+
+        number = a.number;
+        if (out != NULL)
+            fprintf(out, "7 %u %u %u %u %u %lu\n", a.number, a.ready,
+                    a.in_turn, a.waiting, a.ended,
+                    (unsigned long)hash(&a.rows[0][0], sizeof a.rows));
+        break;
+    }
+    default: {
+        size_t len = ind_trace(c->f[0].p, c->f[0].len, c->f[1].p, c->f[1].len,
+                               c->f[2].p, c->f[2].len, NULL, 0);
+        uint8_t *text = room(len);
+        size_t i = len;
+
+        if (ind_trace(c->f[0].p, c->f[0].len, c->f[1].p, c->f[1].len,
+                      c->f[2].p, c->f[2].len, text, len) != len)
+            die("a trace of two lengths");
+        while (i > 0 && text[i - 1] != ' ')
+            i--;
+        for (; i + 1 < len; i++)
+            number = (uint8_t)(number * 10 + (text[i] - '0'));
+        if (out != NULL)
+            fprintf(out, "8 %lu %lu\n", (unsigned long)len,
+                    (unsigned long)hash(text, len));
+        free(text);
+        break;
+    }
+    }
+    free(then);
+    return number;
+}
+
+/* ------------------------------------------------------------------ */
+/* Writing cases                                                      */
+/* ------------------------------------------------------------------ */
+
+struct writer {
+    FILE *out;                        /* null: nothing is written */
+    uint8_t bytes[1 << 18];           /* the case being made */
+    size_t len;
+    unsigned long cases;
+    unsigned long total;              /* bytes of all cases */
+    unsigned long largest;
+    unsigned long table[CALLS][NUMBERS];
+};
+
+static void open_case(struct writer *w, enum call call)
+{
+    w->len = 0;
+    w->bytes[w->len++] = (uint8_t)call;
+}
+
+static void field(struct writer *w, const uint8_t *p, size_t len)
+{
+    if (len > 65535 || w->len + 2 + len > sizeof w->bytes)
+        die("a field too long for the stream");
+    w->bytes[w->len++] = (uint8_t)(len & 255);
+    w->bytes[w->len++] = (uint8_t)(len >> 8);
+    if (len > 0)
+        memcpy(w->bytes + w->len, p, len);
+    w->len += len;
+}
+
+static void state_field(struct writer *w, const struct ind_state *s)
+{
+    uint8_t bytes[STATE_BYTES];
+
+    pack_state(s, bytes);
+    field(w, bytes, sizeof bytes);
+}
+
+/* Writes the case out and counts it.  It is read back the way that the
+ * answering program reads it. */
+static uint8_t close_case(struct writer *w)
+{
+    struct one c;
+    size_t at = 0;
+    uint8_t number;
+
+    if (!take_case(&c, w->bytes, w->len, &at) || at != w->len)
+        die("a case that cannot be read back");
+    number = answer_case(&c, NULL);
+    w->table[c.call][number]++;
+    drop_case(&c);
+    w->cases++;
+    w->total += w->len;
+    if (w->len > w->largest)
+        w->largest = w->len;
+    if (w->out != NULL && fwrite(w->bytes, 1, w->len, w->out) != w->len)
+        die("cannot write");
+    return number;
+}
+
+static void case_check(struct writer *w, const uint8_t *file, size_t len)
+{
+    open_case(w, CHECK);
+    field(w, file, len);
+    close_case(w);
+}
+
+/* The lent buffer is not empty of marks: none of its bytes is 0. */
+static void case_build(struct writer *w, const uint8_t *file, size_t len,
+                       size_t buflen)
+{
+    uint8_t *buf = room(buflen);
+
+    for (size_t i = 0; i < buflen; i++)
+        buf[i] = (uint8_t)(1 + i % 255);
+    open_case(w, BUILD);
+    field(w, file, len);
+    field(w, buf, buflen);
+    close_case(w);
+    free(buf);
+}
+
+static void case_start(struct writer *w, const uint8_t *list, size_t len,
+                       uint8_t b, const uint8_t *resets, size_t nresets,
+                       const uint8_t *log, size_t loglen)
+{
+    open_case(w, START);
+    field(w, list, len);
+    field(w, &b, 1);
+    field(w, resets, nresets);
+    field(w, log, loglen);
+    close_case(w);
+}
+
+static void case_step(struct writer *w, const uint8_t *list, size_t len,
+                      const struct ind_state *s, const uint8_t *log,
+                      size_t loglen, uint8_t station, uint8_t reset)
+{
+    uint8_t pick[2];
+
+    pick[0] = station;
+    pick[1] = reset;
+    open_case(w, STEP);
+    field(w, list, len);
+    state_field(w, s);
+    field(w, log, loglen);
+    field(w, pick, 2);
+    close_case(w);
+}
+
+static void case_run(struct writer *w, const uint8_t *list, size_t len,
+                     const struct ind_state *s, const uint8_t *log,
+                     size_t loglen, const uint8_t *picks, size_t plen,
+                     uint64_t most)
+{
+    uint8_t number[8];
+
+    for (int i = 0; i < 8; i++)
+        number[i] = (uint8_t)(most >> 8 * i & 255);
+    open_case(w, RUN);
+    field(w, list, len);
+    state_field(w, s);
+    field(w, log, loglen);
+    field(w, picks, plen);
+    field(w, number, 8);
+    close_case(w);
+}
+
+static void case_undo(struct writer *w, const uint8_t *list, size_t len,
+                      const struct ind_state *s, const uint8_t *log,
+                      size_t loglen)
+{
+    open_case(w, UNDO);
+    field(w, list, len);
+    state_field(w, s);
+    field(w, log, loglen);
+    close_case(w);
+}
+
+static uint8_t case_lights(struct writer *w, const uint8_t *list, size_t len,
+                           const struct ind_state *s)
+{
+    open_case(w, LIGHTS);
+    field(w, list, len);
+    state_field(w, s);
+    return close_case(w);
+}
+
+static void case_trace(struct writer *w, const struct sequence *program,
+                       const uint8_t *start, size_t slen,
+                       const uint8_t *picks, size_t klen)
+{
+    open_case(w, TRACE);
+    field(w, program->bytes, program->len);
+    field(w, start, slen);
+    field(w, picks, klen);
+    close_case(w);
+}
+
+/* ------------------------------------------------------------------ */
+/* Lists being run                                                    */
+/* ------------------------------------------------------------------ */
+
+/* A list with a state and a log; the log has room for any run. */
+struct press {
+    uint8_t list[IND_ITEM * (IND_MAX_ITEMS + 1)];
+    size_t len;
+    size_t n;
+    struct ind_state state;
+    uint8_t log[2 * (IND_STATIONS + IND_MAX_STEPS + 2)];
+};
+
+/* Builds the sequence into the press. */
+static void load(struct press *x, const struct sequence *p)
+{
+    struct ind_build_answer b = ind_build(p->bytes, p->len, x->list,
+                                          IND_ITEM * IND_MAX_ITEMS);
+
+    if (b.number != IND_FINE)
+        die("a sequence meant to be accepted was refused");
+    x->len = IND_ITEM * (size_t)b.count;
+    x->n = 0;
+    while (x->list[IND_ITEM * x->n] == IND_INIT)
+        x->n++;
+}
+
+/* Starts the press; its log is filled with marks first. */
+static void set_going(struct press *x, uint8_t b, const uint8_t *resets)
+{
+    struct ind_state_answer s;
+
+    memset(x->log, 0xEE, sizeof x->log);
+    s = ind_start(x->list, x->len, b, resets, x->n, x->log, sizeof x->log);
+    if (s.number != IND_FINE)
+        die("a start meant to be taken was refused");
+    x->state = s.state;
+}
+
+/* Takes picks; answers how many were taken. */
+static size_t go(struct press *x, const uint8_t *picks, size_t count)
+{
+    struct ind_run_answer r = ind_run(x->list, x->len, x->state, x->log,
+                                      sizeof x->log, picks, 2 * count, count);
+
+    x->state = r.state;
+    return r.steps;
+}
+
+/* The length of a log that holds the standing steps and `more`. */
+static size_t log_length(const struct press *x, size_t more)
+{
+    return 2 * (x->n + x->state.m + more);
+}
+
+/* ------------------------------------------------------------------ */
+/* The sequences of the bench cases                                   */
+/* ------------------------------------------------------------------ */
+
+static void dryer(struct sequence *p)
+{
+    p->len = 0;
+    add_bare(p, IND_STATION);
+    add(p, IND_SET, 0, 0, 0, 1);
+    add_bare(p, IND_STATION);
+    add(p, IND_AWAIT, 0, 0, 0, 1);
+    add(p, IND_SET, 0, 0, 2, 1);
+    add_bare(p, IND_END);
+}
+
+static void two_loops(struct sequence *p)
+{
+    p->len = 0;
+    for (int i = 0; i < 2; i++) {
+        add_bare(p, IND_STATION);
+        add(p, IND_WHILE, 0, 0, 4, 0);
+        add_bare(p, IND_SKIP);
+        add_bare(p, IND_OD);
+    }
+}
+
+static void one_loop(struct sequence *p)
+{
+    p->len = 0;
+    add_bare(p, IND_STATION);
+    add_bare(p, IND_WHILE);
+    add_bare(p, IND_SKIP);
+    add_bare(p, IND_OD);
+}
+
+static void kinds(struct sequence *p, const uint8_t *list, size_t count)
+{
+    p->len = 0;
+    for (size_t i = 0; i < count; i++)
+        add_bare(p, list[i]);
+}
+
+static void nest(struct sequence *p, uint8_t open, uint8_t middle,
+                 uint8_t close, int deep)
+{
+    p->len = 0;
+    add_bare(p, IND_STATION);
+    for (int i = 0; i < deep; i++)
+        add_bare(p, open);
+    add_bare(p, IND_SKIP);
+    for (int i = 0; i < deep; i++) {
+        if (middle != 0) {
+            add_bare(p, middle);
+            add_bare(p, IND_SKIP);
+        }
+        add_bare(p, close);
+    }
+}
+
+static void stations(struct sequence *p, int count)
+{
+    p->len = 0;
+    for (int i = 0; i < count; i++) {
+        add_bare(p, IND_STATION);
+        add_bare(p, IND_SKIP);
+    }
+}
+
+/* One station of SKIPs up to `len` bytes. */
+static void long_file(struct sequence *p, size_t len)
+{
+    p->len = 0;
+    add_bare(p, IND_STATION);
+    while (p->len < len)
+        add_bare(p, IND_SKIP);
+}
+
+/* A file by check and by build, the buffer with room for 2 records more than
+ * the file has, which is room where there are at most 2 stations. */
+static void both(struct writer *w, const struct sequence *p)
+{
+    case_check(w, p->bytes, p->len);
+    case_build(w, p->bytes, p->len, 2 * p->len + 32);
+}
+
+/* P1 to P8, and the bench cases beside them.  check and build: 0 by P2, P8 and
+ * sixteen deep; 1 by P1; 2 by P7 and P8; 3 by nine stations; 4 by P3 to P6; 5
+ * by seventeen deep. */
+static void bench_check(struct writer *w)
+{
+    static struct sequence p;
+    static const uint8_t p2[] = { 1, 2 }, p4[] = { 2, 1, 2 },
+        p5[] = { 1, 4, 2, 6 }, p6[] = { 1, 9, 7 };
+
+    kinds(&p, NULL, 0);                        /* P1 */
+    both(w, &p);
+    kinds(&p, p2, 2);                          /* P2 */
+    both(w, &p);
+    case_build(w, p.bytes, p.len, 48);         /* just room */
+    kinds(&p, p2, 1);                          /* P3 */
+    both(w, &p);
+    kinds(&p, p4, 3);                          /* P4 */
+    both(w, &p);
+    kinds(&p, p5, 4);                          /* P5 */
+    both(w, &p);
+    kinds(&p, p6, 3);                          /* P6 */
+    both(w, &p);
+    for (int with_station = 0; with_station <= 1; with_station++) {
+        for (uint32_t k = 30; k <= 33; k++) {  /* P8 */
+            kinds(&p, p2, (size_t)with_station);
+            add(&p, IND_SET, 0, 0, 4, k);
+            both(w, &p);
+        }
+        kinds(&p, p2, (size_t)with_station);   /* P7 */
+        add(&p, IND_SET, 0, 1, 0, 0);
+        both(w, &p);
+    }
+    for (int deep = 15; deep <= 18; deep++) {
+        nest(&p, IND_WHILE, 0, IND_OD, deep);
+        both(w, &p);
+        nest(&p, IND_IF, IND_ELSE, IND_FI, deep);
+        both(w, &p);
+    }
+    for (int n = 0; n <= 10; n++) {
+        stations(&p, n);
+        case_check(w, p.bytes, p.len);
+        case_build(w, p.bytes, p.len, 16 * 3 * (size_t)n);
+        if (n > 0)                             /* build 6 where n is to 8 */
+            case_build(w, p.bytes, p.len, 16 * 3 * (size_t)n - 1);
+    }
+}
+
+/* P9 to P12 and the trace of the Dryer. */
+static void bench_run(struct writer *w)
+{
+    static struct sequence p;
+    static struct press x;
+    static const uint8_t zeros[8];
+    static const uint8_t p10_resets[] = { 0, 1 };
+    static const uint8_t p10_picks[] = { 0, 0, 0, 0, 0, 0, 1, 1 };
+    static const uint8_t p10_good[] = { 0, 0, 0, 0, 1, 1 };
+    static const uint8_t dryer_picks[] = { 0, 0, 1, 0, 255, 0, 255, 0 };
+
+    /* P9, by each SET with a difference and each with a sum */
+    for (uint8_t op = 2; op <= 5; op++) {
+        p.len = 0;
+        add(&p, IND_SET, 0, 0, op, 1);
+        add(&p, IND_SET, 1, 1, 3, 1);
+        add_bare(&p, IND_STATION);
+        add(&p, IND_SET, 2, 2, op, 1);
+        load(&x, &p);
+        case_start(w, x.list, x.len, 0, zeros, 1, zeros, 2);
+        set_going(&x, 0, zeros);
+        case_step(w, x.list, x.len, &x.state, x.log, log_length(&x, 1), 0, 0);
+    }
+
+    /* P10 */
+    two_loops(&p);
+    both(w, &p);
+    load(&x, &p);
+    case_start(w, x.list, x.len, 1, p10_resets, 2, zeros, 4);
+    set_going(&x, 1, p10_resets);
+    case_lights(w, x.list, x.len, &x.state);
+    case_run(w, x.list, x.len, &x.state, x.log, log_length(&x, 4),
+             p10_picks, 4, 100);
+    case_run(w, x.list, x.len, &x.state, x.log, log_length(&x, 4),
+             p10_picks, 8, 100);                       /* run 12, two steps */
+    case_run(w, x.list, x.len, &x.state, x.log, log_length(&x, 4),
+             p10_good, 6, UINT64_MAX);
+    go(&x, p10_picks, 2);
+    case_lights(w, x.list, x.len, &x.state);
+    case_step(w, x.list, x.len, &x.state, x.log, log_length(&x, 1), 0, 0);
+    case_step(w, x.list, x.len, &x.state, x.log, log_length(&x, 1), 1, 1);
+    go(&x, p10_good + 4, 1);
+    case_lights(w, x.list, x.len, &x.state);
+    case_undo(w, x.list, x.len, &x.state, x.log, log_length(&x, 0));
+
+    /* P11, P12 */
+    dryer(&p);
+    both(w, &p);
+    load(&x, &p);
+    case_start(w, x.list, x.len, 0, zeros, 2, zeros, 4);
+    set_going(&x, 0, zeros);
+    case_step(w, x.list, x.len, &x.state, x.log, log_length(&x, 1), 1, 0);
+    case_lights(w, x.list, x.len, &x.state);
+    case_step(w, x.list, x.len, &x.state, x.log, log_length(&x, 1), 0, 0);
+    go(&x, dryer_picks, 1);
+    case_lights(w, x.list, x.len, &x.state);
+    case_step(w, x.list, x.len, &x.state, x.log, log_length(&x, 1), 1, 0);
+    go(&x, dryer_picks + 2, 1);
+    case_lights(w, x.list, x.len, &x.state);
+    case_undo(w, x.list, x.len, &x.state, x.log, log_length(&x, 0));
+    x.state = ind_undo(x.list, x.len, x.state, x.log, sizeof x.log).state;
+    case_lights(w, x.list, x.len, &x.state);
+    case_undo(w, x.list, x.len, &x.state, x.log, log_length(&x, 0));
+    x.state = ind_undo(x.list, x.len, x.state, x.log, sizeof x.log).state;
+    case_lights(w, x.list, x.len, &x.state);
+    case_undo(w, x.list, x.len, &x.state, x.log, log_length(&x, 0));
+
+    case_trace(w, &p, zeros, 3, dryer_picks, 8);
+}
+
+/* Each refusal of start, step, run, undo, lights and trace by itself, and
+ * where two meet, the one that comes first.
+ *
+ * Which case reaches which number, one for each (many have more):
+ *
+ *   check   0 P2, 1 P1, 2 P7, 3 nine stations, 4 P3, 5 seventeen deep
+ *   build   0 to 5 the same; 6 a buffer of 47 bytes for one station's SKIP
+ *   start   0 P10; 7 no list; 13 one reset for two stations; 6 a log of 3
+ *           bytes for two stations
+ *   step    0 P12; 7 no list; 8 m = 4,097; 9 m = 4,096; 6 a log of 5 bytes
+ *           for two stations; 10 station 2 of two; 11 P11; 12 P10; 13 reset 3
+ *           with B = 2
+ *   run     0 P10; 1 one byte of picks; 7 the list cut; 8 n = 7; 9 m = 4,096,
+ *           and 4,097 picks; 6 a log that ends behind two steps; 10 (2,0)
+ *           behind two steps; 11 the Dryer's station 1 first; 12 P10 with the
+ *           refused pick in the run; 13 (0,3) behind two steps, B = 2
+ *   undo    0 P12; 7 the list cut; 8 n = 1; 14 at the start; 15 a log short
+ *           by one byte
+ *   lights  0 P11; 7 the list cut; 8 n = 3
+ *   trace   0 the Dryer's; 1 no program, and one byte of picks; 2 SET of
+ *           variable 32; 3 nine stations; 4 a station without a statement; 5
+ *           seventeen deep; 10 (2,0) and (255,1); 11 the Dryer's station 1
+ *           first; 12 two loops, station 0 twice; 13 no B, and reset 1 with
+ *           B = 0; 14 (255,0) first */
+static void refusals(struct writer *w)
+{
+    static struct sequence p;
+    static struct press x;
+    static const uint8_t zeros[16];
+    static const uint8_t three[] = { 0, 0, 0 };
+    static const uint8_t above[] = { 0, 3 };
+    static const uint8_t picks[] = { 0, 2, 1, 2, 0, 0, 1, 1 };
+    uint8_t bad[4];
+    struct ind_state s;
+    size_t full;
+
+    two_loops(&p);
+    load(&x, &p);
+
+    /* start 7: no list, half a record, a record cut off; before 13 and 6 */
+    case_start(w, NULL, 0, 2, zeros, 2, zeros, 4);
+    case_start(w, x.list, x.len - 8, 2, zeros, 2, zeros, 4);
+    case_start(w, x.list, x.len - 16, 2, zeros, 2, zeros, 4);
+    case_start(w, x.list, x.len - 16, 2, zeros, 1, zeros, 3);
+    /* start 13: too few, none, too many, one above B; before 6 */
+    case_start(w, x.list, x.len, 2, zeros, 1, zeros, 4);
+    case_start(w, x.list, x.len, 2, zeros, 0, zeros, 4);
+    case_start(w, x.list, x.len, 2, three, 3, zeros, 4);
+    case_start(w, x.list, x.len, 2, above, 2, zeros, 4);
+    case_start(w, x.list, x.len, 2, above, 2, zeros, 3);
+    case_start(w, x.list, x.len, 2, three, 3, zeros, 3);
+    /* start 6: one byte short, no log; then just enough, and more */
+    case_start(w, x.list, x.len, 3, above, 2, picks, 3);
+    case_start(w, x.list, x.len, 3, above, 2, NULL, 0);
+    case_start(w, x.list, x.len, 3, above, 2, picks, 4);
+    case_start(w, x.list, x.len, 3, above, 2, picks, 8);
+
+    set_going(&x, 2, zeros);
+    full = log_length(&x, 1);
+    /* step 7, with everything else wrong too */
+    s = x.state;
+    s.n = 3;
+    s.m = 5000;
+    case_step(w, x.list, x.len - 1, &s, zeros, 0, 9, 9);
+    case_step(w, NULL, 0, &x.state, x.log, full, 0, 0);
+    /* step 8, with everything after it wrong too */
+    case_step(w, x.list, x.len, &s, zeros, 0, 9, 9);
+    s = x.state;
+    s.m = 4097;
+    case_step(w, x.list, x.len, &s, x.log, full, 0, 0);
+    /* step 9, with everything after it wrong too */
+    s.m = 4096;
+    case_step(w, x.list, x.len, &s, x.log, full, 0, 0);
+    case_step(w, x.list, x.len, &s, zeros, 0, 9, 9);
+    /* step 6, with everything after it wrong too */
+    s.m = 4095;
+    case_step(w, x.list, x.len, &s, x.log, full, 0, 0);
+    case_step(w, x.list, x.len, &x.state, x.log, full - 1, 0, 0);
+    case_step(w, x.list, x.len, &x.state, x.log, full - 1, 2, 3);
+    case_step(w, x.list, x.len, &x.state, NULL, 0, 0, 0);
+    /* step 10: n, 255, the undo pick; before 13 */
+    case_step(w, x.list, x.len, &x.state, x.log, full, 2, 0);
+    case_step(w, x.list, x.len, &x.state, x.log, full, 255, 0);
+    case_step(w, x.list, x.len, &x.state, x.log, full, 2, 3);
+    case_step(w, x.list, x.len, &x.state, x.log, full, 8, 0);
+    /* step 12, and before 13 */
+    s = x.state;
+    s.pri[0] = 1;
+    case_step(w, x.list, x.len, &s, x.log, full, 0, 0);
+    case_step(w, x.list, x.len, &s, x.log, full, 0, 3);
+    /* step 13, and just not */
+    case_step(w, x.list, x.len, &x.state, x.log, full, 0, 3);
+    case_step(w, x.list, x.len, &x.state, x.log, full, 0, 255);
+    case_step(w, x.list, x.len, &x.state, x.log, full, 0, 2);
+    case_step(w, x.list, x.len, &x.state, x.log, full + 7, 1, 2);
+
+    /* run 1, before 7 and 8 */
+    case_run(w, x.list, x.len, &x.state, x.log, full, picks, 1, 0);
+    s.n = 7;
+    case_run(w, x.list, x.len - 3, &s, x.log, full, picks, 3, 1);
+    /* run 7, before 8, with no step allowed and with no picks */
+    case_run(w, x.list, x.len - 3, &s, x.log, full, picks, 2, 0);
+    case_run(w, x.list, x.len - 16, &x.state, x.log, full, NULL, 0, 9);
+    /* run 8, the same */
+    case_run(w, x.list, x.len, &s, x.log, full, picks, 2, 0);
+    case_run(w, x.list, x.len, &s, NULL, 0, NULL, 0, 9);
+    /* run 9 at once; none where no step is tried */
+    s = x.state;
+    s.m = 4096;
+    case_run(w, x.list, x.len, &s, NULL, 0, picks, 2, 1);
+    case_run(w, x.list, x.len, &s, NULL, 0, picks, 2, 0);
+    case_run(w, x.list, x.len, &s, NULL, 0, picks, 0, 1);
+    /* run 6 after 0, 1 and 2 steps, by an odd byte too */
+    for (size_t i = 0; i < 6; i++)
+        case_run(w, x.list, x.len, &x.state, x.log, 4 + i, picks, 8, 5);
+    /* run by the number 0 to 5 and a number beyond 32 bits */
+    for (uint64_t most = 0; most <= 5; most++)
+        case_run(w, x.list, x.len, &x.state, x.log, 12, picks, 8, most);
+    case_run(w, x.list, x.len, &x.state, x.log, 12, picks, 8,
+             UINT64_C(1) << 32);
+    /* run 10 after two steps, by the undo pick too; 12; 13 */
+    memcpy(bad, picks, 4);
+    for (int i = 0; i < 5; i++) {
+        static const uint8_t last[5][2] = {
+            { 2, 0 }, { 255, 0 }, { 255, 1 }, { 1, 0 }, { 0, 3 }
+        };
+        uint8_t six[6];
+
+        memcpy(six, bad, 4);
+        memcpy(six + 4, last[i], 2);
+        case_run(w, x.list, x.len, &x.state, x.log, 20, six, 6, 9);
+        case_run(w, x.list, x.len, &x.state, x.log, 20, six, 6, 2);
+    }
+
+    /* undo 7, before 8; 8, before 14; 14, before 15 */
+    s = x.state;
+    s.n = 1;
+    case_undo(w, x.list, x.len - 16, &s, x.log, full);
+    case_undo(w, x.list, x.len, &s, x.log, full);
+    case_undo(w, x.list, x.len, &x.state, x.log, full);
+    case_undo(w, x.list, x.len, &x.state, NULL, 0);
+    /* undo 15: the log short by one byte and more; a start record of another
+     * station, above B; each step record replaced.  The record withdrawn is
+     * not judged: there it is 0. */
+    go(&x, picks, 4);
+    full = log_length(&x, 0);
+    for (size_t len = full + 1; len + 5 > full; len--)
+        case_undo(w, x.list, x.len, &x.state, x.log, len);
+    case_undo(w, x.list, x.len, &x.state, NULL, 0);
+    for (size_t i = 0; i < full; i++) {
+        uint8_t was = x.log[i];
+
+        for (int j = 0; j < 3; j++) {
+            static const uint8_t put[3] = { 1, 3, 255 };
+
+            x.log[i] = (uint8_t)(j == 0 ? was ^ put[j] : put[j]);
+            case_undo(w, x.list, x.len, &x.state, x.log, full);
+        }
+        x.log[i] = was;
+    }
+    /* undo 0 whatever the variables, positions and priorities given */
+    s = x.state;
+    s.var[3] = 77;
+    s.pri[0] = s.pri[1];
+    s.pos[0] = 2;
+    case_undo(w, x.list, x.len, &s, x.log, full);
+    s.m = 2;
+    case_undo(w, x.list, x.len, &s, x.log, full);
+    s.m = 1;
+    case_undo(w, x.list, x.len, &s, x.log, full);
+    s.m = 5;
+    case_undo(w, x.list, x.len, &s, x.log, full);
+    s.b = 1;
+    s.m = 4;
+    case_undo(w, x.list, x.len, &s, x.log, full);
+
+    /* lights 7, before 8; 8 */
+    s.n = 3;
+    case_lights(w, x.list, x.len - 16, &s);
+    case_lights(w, x.list, x.len, &s);
+
+    /* step, run 11: at AWAIT, at STOP; before 12 and 13 */
+    dryer(&p);
+    load(&x, &p);
+    set_going(&x, 0, zeros);
+    case_step(w, x.list, x.len, &x.state, x.log, 20, 1, 1);
+    case_run(w, x.list, x.len, &x.state, x.log, 20, picks + 2, 2, 1);
+    go(&x, zeros, 1);
+    case_step(w, x.list, x.len, &x.state, x.log, 20, 0, 0);
+    case_run(w, x.list, x.len, &x.state, x.log, 20, zeros, 2, 1);
+    s = x.state;
+    s.b = 9;
+    s.pri[0] = 9;
+    case_step(w, x.list, x.len, &s, x.log, 20, 0, 10);
+
+    /* trace 1 to 5, with the start and the picks wrong too */
+    p.len = 0;
+    case_trace(w, &p, NULL, 0, zeros, 1);
+    case_trace(w, &p, zeros, 3, zeros, 2);
+    add(&p, IND_SET, 32, 0, 0, 0);
+    case_trace(w, &p, NULL, 0, zeros, 1);
+    stations(&p, 9);
+    case_trace(w, &p, NULL, 0, zeros, 1);
+    stations(&p, 2);
+    p.len -= 8;
+    case_trace(w, &p, NULL, 0, zeros, 1);
+    nest(&p, IND_WHILE, 0, IND_OD, 17);
+    case_trace(w, &p, NULL, 0, zeros, 1);
+    /* trace 13 by the start: no B, no resets, too few, too many, above B; with
+     * the picks odd too */
+    dryer(&p);
+    for (size_t slen = 0; slen <= 4; slen++)
+        case_trace(w, &p, zeros, slen, zeros, slen % 2);
+    case_trace(w, &p, above, 2, zeros, 2);
+    bad[0] = 2;
+    bad[1] = 0;
+    bad[2] = 3;
+    case_trace(w, &p, bad, 3, zeros, 2);
+    /* trace 1 by the picks, the start line printed; 0 with none */
+    case_trace(w, &p, zeros, 3, zeros, 1);
+    case_trace(w, &p, zeros, 3, zeros, 3);
+    case_trace(w, &p, zeros, 3, NULL, 0);
+    /* trace 10 by (2,0) and (255,1), 11, 13 by a step, 14 */
+    for (int i = 0; i < 5; i++) {
+        static const uint8_t last[5][2] = {
+            { 2, 0 }, { 255, 1 }, { 1, 0 }, { 0, 1 }, { 255, 0 }
+        };
+        uint8_t eight[8] = { 0, 0, 255, 0, 0, 0, 0, 0 };
+
+        case_trace(w, &p, zeros, 3, last[i], 2);
+        memcpy(eight + 4, last[i], 2);
+        case_trace(w, &p, zeros, 3, eight, 8);
+    }
+    /* trace 12, and priorities below zero */
+    two_loops(&p);
+    case_trace(w, &p, zeros, 3, zeros, 8);
+    bad[0] = 1;
+    bad[1] = 0;
+    bad[2] = 1;
+    case_trace(w, &p, bad, 3, zeros, 8);
+}
+
+/* The table of fields, one record a file: each kind and op with every field
+ * right, then with one field changed.  The answers are 2 or, where the record
+ * is right, 3 or 4. */
+static void fields(struct writer *w)
+{
+    static struct sequence p;
+    static const uint8_t kind[] = { 0, 1, 2, 3, 4, 5, 6, 7, 8, 9, 10, 11, 12,
+                                    15, 16, 17, 18, 128, 255 };
+    static const uint8_t byte[] = { 1, 31, 32, 255 };
+    static const uint32_t k[] = { 1, 31, 32, 255, 256, 65536, 0x1000000,
+                                  UINT32_MAX };
+
+    for (size_t i = 0; i < sizeof kind; i++) {
+        int long_row = kind[i] == IND_SET || kind[i] == IND_IF
+                    || kind[i] == IND_WHILE || kind[i] == IND_AWAIT;
+
+        for (uint8_t op = 0; op < (long_row ? 10 : 2); op++) {
+            p.len = 0;
+            add(&p, kind[i], 0, 0, op, 0);
+            case_check(w, p.bytes, p.len);
+            for (size_t j = 0; j < sizeof byte; j++) {
+                p.len = 0;
+                add(&p, kind[i], byte[j], 0, op, 0);
+                case_check(w, p.bytes, p.len);
+                p.len = 0;
+                add(&p, kind[i], 0, byte[j], op, 0);
+                case_check(w, p.bytes, p.len);
+            }
+            for (size_t j = 0; j < sizeof k / sizeof k[0]; j++) {
+                p.len = 0;
+                add(&p, kind[i], 0, 0, op, k[j]);
+                case_check(w, p.bytes, p.len);
+            }
+        }
+        p.len = 0;
+        add(&p, kind[i], 0, 0, 255, 0);
+        case_check(w, p.bytes, p.len);
+        p.len = 0;
+        add(&p, kind[i], 31, 31, 5, 31);
+        case_check(w, p.bytes, p.len);
+    }
+}
+
+/* The order of check's tests, "each over the whole file". */
+static void check_order(struct writer *w)
+{
+    static struct sequence p;
+    static const uint8_t no_station[] = { 6, 6 };
+
+    /* 1 before 2; 2 late before 3, 4 and 5 early */
+    stations(&p, 9);
+    add(&p, 11, 0, 0, 0, 0);
+    case_check(w, p.bytes, p.len - 1);
+    case_check(w, p.bytes, p.len);
+    nest(&p, IND_WHILE, 0, IND_OD, 20);
+    add(&p, IND_SKIP, 1, 0, 0, 0);
+    case_check(w, p.bytes, p.len);
+    /* 3 before 4: no station and ill shaped; nine, one inside a loop */
+    kinds(&p, no_station, 2);
+    case_check(w, p.bytes, p.len);
+    stations(&p, 8);
+    add_bare(&p, IND_WHILE);
+    add_bare(&p, IND_STATION);
+    case_check(w, p.bytes, p.len);
+    /* 4 late before 5 early; a file that is deep and unfinished */
+    nest(&p, IND_WHILE, 0, IND_OD, 20);
+    add_bare(&p, IND_OD);
+    case_check(w, p.bytes, p.len);
+    p.len -= 16;
+    case_check(w, p.bytes, p.len);
+    p.len += 8;
+    case_check(w, p.bytes, p.len);
+    /* 5 by the second nest, by IF, WHILE and AWAIT mixed */
+    nest(&p, IND_IF, IND_ELSE, IND_FI, 16);
+    add_bare(&p, IND_STATION);
+    for (int i = 0; i < 16; i++)
+        add_bare(&p, i % 2 == 0 ? IND_WHILE : IND_IF);
+    add_bare(&p, IND_AWAIT);
+    add_bare(&p, IND_SKIP);
+    add_bare(&p, IND_END);
+    for (int i = 15; i >= 0; i--) {
+        if (i % 2 == 1) {
+            add_bare(&p, IND_ELSE);
+            add_bare(&p, IND_SKIP);
+        }
+        add_bare(&p, i % 2 == 0 ? IND_OD : IND_FI);
+    }
+    case_check(w, p.bytes, p.len);
+    /* 4 in a body: each kind behind AWAIT, behind AWAIT IF, behind AWAIT IF
+     * SKIP ELSE, and behind a station's first statement */
+    for (uint8_t kind = 1; kind <= 10; kind++) {
+        static const uint8_t before[5][6] = {
+            { 1, 9 }, { 1, 9, 4 }, { 1, 9, 4, 2, 5 }, { 1, 9, 2, 10, 7, 2 },
+            { 1, 4, 2 }
+        };
+        static const size_t many[5] = { 2, 3, 5, 6, 3 };
+
+        for (int i = 0; i < 5; i++) {
+            kinds(&p, before[i], many[i]);
+            add_bare(&p, kind);
+            case_check(w, p.bytes, p.len);
+            add_bare(&p, IND_STATION);
+            case_check(w, p.bytes, p.len);
+        }
+    }
+}
+
+/* The limits: long files, the longest list, 4,096 steps and one more, B of
+ * 255, long bodies. */
+static void limits(struct writer *w)
+{
+    static struct sequence p;
+    static struct press x;
+    static uint8_t picks[8196];
+    static const uint8_t zeros[8];
+    static const uint8_t high[8] = { 255, 255, 255, 255, 255, 255, 255, 255 };
+    size_t most = IND_ITEM * IND_MAX_ITEMS;
+    struct ind_state s;
+
+    long_file(&p, 8192);                         /* "8,192 bytes pass" */
+    case_check(w, p.bytes, p.len);
+    case_trace(w, &p, zeros, 2, zeros, 4);
+    case_check(w, p.bytes, p.len - 1);
+    long_file(&p, 8200);                         /* "8,200 don't" */
+    case_check(w, p.bytes, p.len);
+    case_build(w, p.bytes, p.len, 16);
+
+    /* a thousand unclosed WHILEs; 511 closed, and with the last one wrong */
+    p.len = 0;
+    add_bare(&p, IND_STATION);
+    for (int i = 0; i < 1000; i++)
+        add_bare(&p, IND_WHILE);
+    case_check(w, p.bytes, p.len);
+    nest(&p, IND_WHILE, 0, IND_OD, 511);
+    case_check(w, p.bytes, p.len);
+    p.bytes[p.len - 8] = IND_END;
+    case_build(w, p.bytes, p.len, 3);
+
+    /* A file of 1,024 records with a long initial part and a long body. */
+    p.len = 0;
+    for (int i = 0; i < 16; i++)
+        add(&p, IND_SET, (uint8_t)(16 + i), 31, 2, UINT32_MAX);
+    for (int i = 0; i < 8; i++) {
+        add_bare(&p, IND_STATION);
+        if (i == 7) {                  /* a body with branches, and behind
+                                        * them SETs */
+            add(&p, IND_AWAIT, 0, 16, 3, 1);
+            for (uint8_t j = 0; j < 8; j++)
+                add(&p, IND_IF, 0, j, 0, 0);
+            add(&p, IND_SET, 8, 9, 4, 10);
+            for (uint8_t j = 0; j < 8; j++) {
+                add_bare(&p, IND_ELSE);
+                add(&p, IND_SET, j, j, 3, 1);
+                add_bare(&p, IND_FI);
+            }
+            while (p.len < 8192 - 8)
+                add(&p, IND_SET, 11, 11, 2, 0x01020304);
+            add_bare(&p, IND_END);
+        } else {
+            for (int j = 0; j < 125; j++)
+                add(&p, IND_SET, (uint8_t)i, 7, 2, (uint32_t)j);
+        }
+    }
+    case_check(w, p.bytes, p.len);
+    load(&x, &p);
+    set_going(&x, 255, high);
+    case_step(w, x.list, x.len, &x.state, x.log, log_length(&x, 1), 7, 3);
+    case_lights(w, x.list, x.len, &x.state);
+
+    /* The longest list: 8 stations, 1,032 records. */
+    p.len = 0;
+    for (int i = 0; i < 8; i++) {
+        add_bare(&p, IND_STATION);
+        for (int j = 0; j < 127; j++)
+            add_bare(&p, IND_SKIP);
+    }
+    load(&x, &p);
+    if (x.len != most)
+        die("not the longest list");
+    case_build(w, p.bytes, p.len, most);
+    case_build(w, p.bytes, p.len, most - 1);      /* build 6 */
+    case_start(w, x.list, x.len, 255, high, 8, picks, 16);
+    set_going(&x, 255, high);
+    case_step(w, x.list, x.len, &x.state, x.log, log_length(&x, 1), 7, 255);
+    memcpy(x.list + most, x.list + most - 16, 16);
+    case_lights(w, x.list, most + 16, &x.state);  /* lights 7: 1,033 records */
+
+    /* 4,096 steps and one more */
+    one_loop(&p);
+    load(&x, &p);
+    set_going(&x, 0, zeros);
+    case_run(w, x.list, x.len, &x.state, x.log, 8194, picks, 8194, 5000);
+    case_run(w, x.list, x.len, &x.state, x.log, 8193, picks, 8194, 5000);
+    case_trace(w, &p, zeros, 2, picks, 8192);
+    case_trace(w, &p, zeros, 2, picks, 8194);
+    go(&x, picks, 4095);
+    case_step(w, x.list, x.len, &x.state, x.log, 8193, 0, 0);
+    case_step(w, x.list, x.len, &x.state, x.log, 8194, 0, 0);
+    go(&x, picks, 1);
+    case_step(w, x.list, x.len, &x.state, x.log, 4, 0, 0);
+    case_undo(w, x.list, x.len, &x.state, x.log, 8194);
+    case_undo(w, x.list, x.len, &x.state, x.log, 8193);
+    for (size_t i = 4096; i < 8192; i += 2)
+        picks[i] = 255;
+    case_trace(w, &p, zeros, 2, picks, 8192);     /* half of it withdrawn */
+
+    /* B of 255 and of 254 with resets of 255; priorities from 255 down */
+    two_loops(&p);
+    load(&x, &p);
+    case_start(w, x.list, x.len, 255, high, 2, zeros, 4);
+    case_start(w, x.list, x.len, 254, high, 2, zeros, 4);
+    set_going(&x, 255, high);
+    case_step(w, x.list, x.len, &x.state, x.log, 6, 1, 255);
+    case_run(w, x.list, x.len, &x.state, x.log, 520, picks, 514, 300);
+    case_run(w, x.list, x.len, &x.state, x.log, 900, picks, 600, 300);
+    s = x.state;
+    s.pri[0] = 256;
+    case_step(w, x.list, x.len, &s, x.log, 6, 1, 255);   /* step 8 */
+}
+
+/* ------------------------------------------------------------------ */
+/* Lists that no build made                                           */
+/* ------------------------------------------------------------------ */
+
+static void put_item(uint8_t *r, const uint8_t fields[IND_RECORD],
+                     size_t station, uint8_t inside, size_t t1, size_t t2)
+{
+    memcpy(r, fields, IND_RECORD);
+    r[8] = (uint8_t)station;
+    r[9] = inside;
+    r[10] = (uint8_t)(t1 & 255);
+    r[11] = (uint8_t)(t1 >> 8);
+    r[12] = (uint8_t)(t2 & 255);
+    r[13] = (uint8_t)(t2 >> 8);
+    r[14] = 0;
+    r[15] = 0;
+}
+
+/* A random place from `from` on whose record belongs to the station and is
+ * inside or not; 0 where there is none. */
+static size_t some_place(struct rng *g, const uint8_t *list, size_t items,
+                         size_t from, size_t station, uint8_t inside)
+{
+    size_t found = 0;
+    uint32_t seen = 0;
+
+    for (size_t i = from; i < items; i++) {
+        const uint8_t *r = list + IND_ITEM * i;
+
+        if (r[8] != station || r[9] != inside)
+            continue;
+        seen++;
+        if (below(g, seen) == 0)
+            found = i;
+    }
+    return found;
+}
+
+/* Puts a random sound list of up to `most` stations into the press: the
+ * stations' records mixed, any number of STOPs, records nobody reaches,
+ * bodies that lead into each other, targets that cross. */
+static void random_list(struct rng *g, struct press *x, uint32_t most)
+{
+    uint32_t n = 1 + below(g, most);
+    uint32_t initial = chance(g, 40) ? below(g, 4) : 0;
+    uint32_t later = n + below(g, 4 + 3 * n);
+    size_t first = n + initial, items = first;
+    uint8_t *list = x->list;
+    uint8_t bare[IND_RECORD] = { 0 };
+
+    /* the stations and which are inside; each station has one outside */
+    for (uint32_t i = 0; i < later; i++) {
+        size_t station = i < n ? i : below(g, n);
+        uint32_t body = chance(g, 40) ? 1 + below(g, 4) : 0;
+
+        if (i >= n && chance(g, 10)) {
+            put_item(list + IND_ITEM * items++, bare, station, 1, 0, 0);
+            continue;
+        }
+        put_item(list + IND_ITEM * items++, bare, station, 0, 0, 0);
+        for (uint32_t j = 0; j < body; j++)
+            put_item(list + IND_ITEM * items++, bare, station, 1, 0, 0);
+    }
+
+    for (size_t j = 0; j < n; j++) {
+        bare[0] = IND_INIT;
+        bare[1] = (uint8_t)j;
+        put_item(list + IND_ITEM * j, bare, j, 0,
+                 some_place(g, list, items, first, j, 0), 0);
+    }
+    bare[1] = 0;
+    for (size_t i = n; i < first; i++) {
+        uint8_t r[IND_RECORD];
+
+        random_set(g, r);
+        put_item(list + IND_ITEM * i, r, IND_INITIAL, 0, 0, 0);
+    }
+
+    for (size_t i = first; i < items; i++) {
+        uint8_t *r = list + IND_ITEM * i;
+        size_t station = r[8];
+        uint8_t inside = r[9];
+        uint8_t fields[IND_RECORD] = { 0 };
+        uint32_t what = below(g, inside ? 7 : 11);
+        size_t t1, t2;
+
+        if (inside) {
+            t1 = chance(g, 75) ? some_place(g, list, items, i + 1, station, 1)
+                               : 0;
+            t2 = chance(g, 75) ? some_place(g, list, items, i + 1, station, 1)
+                               : 0;
+        } else {
+            t1 = some_place(g, list, items, first, station, 0);
+            t2 = some_place(g, list, items, first, station, 0);
+            if (i + 1 < items && r[16 + 8] == station && r[16 + 9] == 1
+                && chance(g, 80)) {
+                random_test(g, IND_AWAIT, fields);
+                put_item(r, fields, station, 0, i + 1, t2);
+                continue;
+            }
+        }
+        if (what == 0) {
+            fields[0] = IND_SKIP;
+            t2 = 0;
+        } else if (what <= 3) {
+            random_set(g, fields);
+            t2 = 0;
+        } else if (what <= 6) {
+            random_test(g, IND_IF, fields);
+        } else if (what <= 9) {
+            random_test(g, IND_WHILE, fields);
+        } else {
+            fields[0] = IND_STOP;
+            t1 = 0;
+            t2 = 0;
+        }
+        put_item(r, fields, station, inside, t1, t2);
+    }
+    x->len = IND_ITEM * items;
+    x->n = n;
+}
+
+/* Hand-made lists, each sound: shared bodies, several STOPs or none, records
+ * nobody reaches, targets that cross; then each byte of one list changed, by
+ * lights (7 or 0). */
+static void hand_made(struct writer *w)
+{
+    static const uint8_t zeros[8];
+    static struct press x;
+
+    /* one station, two AWAITs whose bodies end in the same record, a record
+     * inside that nobody reaches, two STOPs */
+    static const uint8_t shared[] = {
+        16, 0, 0, 0, 0, 0, 0, 0, 0, 0, 1, 0, 0, 0, 0, 0,
+        9, 0, 0, 0, 0, 0, 0, 0, 0, 0, 2, 0, 3, 0, 0, 0,
+        4, 0, 1, 5, 2, 0, 0, 0, 0, 1, 5, 0, 6, 0, 0, 0,
+        9, 0, 3, 2, 9, 0, 0, 0, 0, 0, 4, 0, 7, 0, 0, 0,
+        3, 4, 5, 1, 0, 0, 0, 0, 0, 1, 5, 0, 0, 0, 0, 0,
+        3, 6, 7, 4, 8, 0, 0, 0, 0, 1, 0, 0, 0, 0, 0, 0,
+        3, 9, 0, 0, 1, 0, 0, 0, 0, 1, 0, 0, 0, 0, 0, 0,
+        4, 0, 6, 1, 1, 0, 0, 0, 0, 0, 8, 0, 9, 0, 0, 0,
+        17, 0, 0, 0, 0, 0, 0, 0, 0, 0, 0, 0, 0, 0, 0, 0,
+        17, 0, 0, 0, 0, 0, 0, 0, 0, 0, 0, 0, 0, 0, 0, 0,
+        3, 10, 0, 0, 1, 0, 0, 0, 0, 1, 0, 0, 0, 0, 0, 0
+    };
+    /* two stations mixed, no STOP, targets that cross, a SKIP to itself */
+    static const uint8_t mixed[] = {
+        16, 0, 0, 0, 0, 0, 0, 0, 0, 0, 5, 0, 0, 0, 0, 0,
+        16, 1, 0, 0, 0, 0, 0, 0, 1, 0, 6, 0, 0, 0, 0, 0,
+        3, 2, 0, 0, 5, 0, 0, 0, 255, 0, 0, 0, 0, 0, 0, 0,
+        4, 0, 2, 3, 3, 0, 0, 0, 0, 0, 5, 0, 7, 0, 0, 0,
+        2, 0, 0, 0, 0, 0, 0, 0, 1, 0, 4, 0, 0, 0, 0, 0,
+        7, 0, 2, 0, 5, 0, 0, 0, 0, 0, 7, 0, 3, 0, 0, 0,
+        3, 2, 2, 3, 1, 0, 0, 0, 1, 0, 8, 0, 0, 0, 0, 0,
+        3, 1, 1, 2, 1, 0, 0, 0, 0, 0, 3, 0, 0, 0, 0, 0,
+        7, 0, 1, 6, 2, 0, 0, 0, 1, 0, 6, 0, 4, 0, 0, 0
+    };
+    /* the smallest sound lists: a STOP, a SKIP to itself */
+    static const uint8_t stop[] = {
+        16, 0, 0, 0, 0, 0, 0, 0, 0, 0, 1, 0, 0, 0, 0, 0,
+        17, 0, 0, 0, 0, 0, 0, 0, 0, 0, 0, 0, 0, 0, 0, 0
+    };
+    static const uint8_t skip[] = {
+        16, 0, 0, 0, 0, 0, 0, 0, 0, 0, 1, 0, 0, 0, 0, 0,
+        2, 0, 0, 0, 0, 0, 0, 0, 0, 0, 1, 0, 0, 0, 0, 0
+    };
+    static const struct {
+        const uint8_t *list;
+        size_t len;
+        size_t n;
+    } hand[] = {
+        { shared, sizeof shared, 1 },
+        { mixed, sizeof mixed, 2 },
+        { stop, sizeof stop, 1 },
+        { skip, sizeof skip, 1 }
+    };
+
+    for (size_t i = 0; i < 4; i++) {
+        memcpy(x.list, hand[i].list, hand[i].len);
+        x.len = hand[i].len;
+        x.n = hand[i].n;
+        case_start(w, x.list, x.len, 1, zeros, x.n, zeros, 8);
+        set_going(&x, 1, zeros);
+        if (case_lights(w, x.list, x.len, &x.state) != IND_FINE)
+            die("a hand-made list is not sound");
+        for (int j = 0; j < 14; j++) {
+            struct ind_lights_answer l = ind_lights(x.list, x.len, x.state);
+            uint8_t pick[2] = { 0, 0 };
+
+            while (pick[0] < 7 && (l.in_turn >> pick[0] & 1) == 0)
+                pick[0]++;
+            case_step(w, x.list, x.len, &x.state, x.log, log_length(&x, 1),
+                      pick[0], (uint8_t)(j % 2));
+            pick[1] = (uint8_t)(j % 2);
+            if (go(&x, pick, 1) == 0)
+                break;
+            case_lights(w, x.list, x.len, &x.state);
+        }
+        case_undo(w, x.list, x.len, &x.state, x.log, log_length(&x, 0));
+        /* the state put at each place */
+        for (uint16_t place = 0; place <= x.len / IND_ITEM; place++) {
+            struct ind_state s = x.state;
+
+            s.pos[0] = place;
+            case_lights(w, x.list, x.len, &s);
+        }
+    }
+
+    /* each byte changed; each target of all lists but the first put at each
+     * place, an INIT's too */
+    for (size_t i = 0; i < 4; i++) {
+        memcpy(x.list, hand[i].list, hand[i].len);
+        x.len = hand[i].len;
+        x.n = hand[i].n;
+        set_going(&x, 1, zeros);
+        for (size_t at = 0; at < x.len; at++) {
+            uint8_t was = x.list[at];
+
+            x.list[at] = (uint8_t)(was + 1);
+            case_lights(w, x.list, x.len, &x.state);
+            if (at % 16 < 4 || (at % 16 > 7 && at % 16 < 14)) {
+                x.list[at] = (uint8_t)(was - 1);
+                case_lights(w, x.list, x.len, &x.state);
+            }
+            for (size_t place = 0; i > 0 && place <= x.len / 16; place++) {
+                x.list[at] = (uint8_t)place;
+                if ((at % 16 == 10 || at % 16 == 12) && place != was
+                    && place != was + 1u && place + 1 != was)
+                    case_lights(w, x.list, x.len, &x.state);
+            }
+            x.list[at] = was;
+        }
+        for (size_t cut = 0; cut <= x.len; cut += 8)
+            case_start(w, x.list, cut, 1, zeros, x.n, zeros, 8);
+    }
+
+    /* eight INITs and nine */
+    for (size_t n = 8; n <= 9; n++) {
+        uint8_t fields[IND_RECORD] = { 0 };
+
+        for (size_t j = 0; j < n; j++) {
+            fields[0] = IND_INIT;
+            fields[1] = (uint8_t)j;
+            put_item(x.list + 16 * j, fields, j, 0, n + j, 0);
+            fields[0] = IND_STOP;
+            fields[1] = 0;
+            put_item(x.list + 16 * (n + j), fields, j, 0, 0, 0);
+        }
+        case_start(w, x.list, 32 * n, 0, zeros, 8, zeros, 8);
+        case_start(w, x.list, 32 * n, 0, zeros, 8, x.list, 16);
+    }
+}
+
+/* ------------------------------------------------------------------ */
+/* States near soundness                                              */
+/* ------------------------------------------------------------------ */
+
+/* A state for the list, sound or nearly. */
+static struct ind_state random_state(struct rng *g, const struct press *x)
+{
+    static const uint16_t marks[] = { 0, 1, 2, 3, 7, 4095, 4096, 4097, 65535 };
+    struct ind_state s = { { 0 }, { 0 }, { 0 }, 0, 0, 0 };
+    size_t items = x->len / IND_ITEM;
+    uint32_t last = (uint32_t)x->n;
+
+    for (int i = 0; i < 4; i++)
+        s.var[i] = random_constant(g);
+    s.n = (uint8_t)x->n;
+    s.b = chance(g, 80) ? (uint8_t)below(g, 4) : 255;
+    s.m = chance(g, 80) ? (uint16_t)below(g, 6) : marks[below(g, 9)];
+    for (size_t i = 0; i < x->n; i++) {
+        s.pos[i] = (uint16_t)some_place(g, x->list, items, x->n, i, 0);
+        if (chance(g, 60))
+            s.pri[i] = (int16_t)below(g, s.b + 1u);
+        else
+            s.pri[i] = (int16_t)-(int)below(g, last);
+    }
+    if (chance(g, 35)) {
+        size_t i = below(g, IND_STATIONS);
+
+        switch (below(g, 9)) {
+        case 0:
+            s.pos[i] = (uint16_t)below(g, (uint32_t)items + 2);
+            break;
+        case 1:
+            s.pos[i] = (uint16_t)some_place(g, x->list, items, x->n, i, 1);
+            break;
+        case 2:
+            s.pri[i] = (int16_t)(s.b + (int)below(g, 2));
+            break;
+        case 3:
+            s.pri[i] = (int16_t)-(int)(last + below(g, 2));
+            break;
+        case 4:
+            s.pri[i] = INT16_MIN;
+            break;
+        case 5:
+            s.n = (uint8_t)(s.n + 1 - 2 * below(g, 2));
+            break;
+        case 6:
+            s.pri[i] = INT16_MAX;
+            break;
+        case 7:
+            s.pos[i] = (uint16_t)draw(g);
+            break;
+        default:
+            s.n = (uint8_t)draw(g);
+            break;
+        }
+    }
+    return s;
+}
+
+/* The rule on priorities, for each n: as low as can be, then each one lower
+ * by one; positions of other stations, inside, initial, INIT; entries from n
+ * on.  lights 0 and 8. */
+static void states(struct writer *w)
+{
+    static struct press x;
+    static struct sequence p;
+    static const uint8_t zeros[8];
+    struct ind_state s;
+
+    for (int n = 1; n <= 8; n++) {
+        stations(&p, n);
+        load(&x, &p);
+        set_going(&x, 3, zeros);
+        s = x.state;
+        for (int i = 0; i < n; i++)
+            s.pri[i] = (int16_t)-i;
+        case_lights(w, x.list, x.len, &s);
+        for (int i = 0; i < n; i++) {
+            s.pri[i]--;
+            case_lights(w, x.list, x.len, &s);
+            s.pri[i]++;
+        }
+        for (int i = 0; i < n; i++)
+            s.pri[i] = (int16_t)(i + 1 - n);
+        case_lights(w, x.list, x.len, &s);
+        s.pri[n - 1] = 3;
+        case_lights(w, x.list, x.len, &s);
+        s.pri[n - 1] = 4;
+        case_lights(w, x.list, x.len, &s);
+        for (int i = 0; i < n; i++)
+            s.pri[i] = -1;
+        case_lights(w, x.list, x.len, &s);
+        s.pri[0] = 0;
+        case_lights(w, x.list, x.len, &s);
+        if (n < 8) {
+            s = x.state;
+            s.pri[n] = -1;
+            case_lights(w, x.list, x.len, &s);
+            s.pri[n] = 0;
+            s.pos[7] = (uint16_t)n;
+            case_lights(w, x.list, x.len, &s);
+        }
+    }
+    p.len = 0;
+    add(&p, IND_SET, 1, 0, 0, 7);
+    add_bare(&p, IND_STATION);
+    add_bare(&p, IND_SKIP);
+    add_bare(&p, IND_STATION);
+    add(&p, IND_AWAIT, 0, 0, 4, 1);
+    add_bare(&p, IND_SKIP);
+    add_bare(&p, IND_END);
+    load(&x, &p);
+    set_going(&x, 3, zeros);
+    for (uint16_t place = 0; place < 10; place++) {
+        for (int i = 0; i < 3; i++) {
+            s = x.state;
+            s.pos[i] = place;
+            case_lights(w, x.list, x.len, &s);
+        }
+    }
+    s = x.state;
+    s.pos[0] = 65535;
+    case_lights(w, x.list, x.len, &s);
+    s = x.state;
+    for (unsigned n = 0; n <= 9; n++) {
+        s.n = (uint8_t)n;
+        case_lights(w, x.list, x.len, &s);
+    }
+    s.n = 255;
+    case_lights(w, x.list, x.len, &s);
+    s = x.state;
+    for (uint16_t m = 4094; m <= 4098; m++) {
+        s.m = m;
+        case_lights(w, x.list, x.len, &s);
+    }
+}
+
+/* ------------------------------------------------------------------ */
+/* Random cases                                                       */
+/* ------------------------------------------------------------------ */
+
+/* Changes the bytes a little: a bit, a byte, a cut, a doubled or missing
+ * piece of `unit` bytes, two pieces exchanged. */
+static void damage(struct rng *g, uint8_t *p, size_t *len, size_t unit,
+                   size_t limit)
+{
+    size_t pieces = *len / unit;
+    size_t at, other;
+
+    if (*len == 0)
+        return;
+    at = below(g, (uint32_t)*len);
+    switch (below(g, 8)) {
+    case 0:
+        p[at] ^= (uint8_t)(1u << below(g, 8));
+        break;
+    case 1:
+        p[at] = (uint8_t)draw(g);
+        break;
+    case 2:
+        p[at] = (uint8_t)(p[at] + 1 - 2 * below(g, 2));
+        break;
+    case 3:
+        *len = at;
+        break;
+    case 4:
+        *len = at / unit * unit;
+        break;
+    case 5:                                    /* a piece missing */
+        at = at / unit * unit;
+        if (*len - at >= unit) {
+            memmove(p + at, p + at + unit, *len - at - unit);
+            *len -= unit;
+        }
+        break;
+    case 6:                                    /* a piece doubled */
+        at = at / unit * unit;
+        if (*len - at >= unit && *len + unit <= limit) {
+            memmove(p + at + unit, p + at, *len - at);
+            *len += unit;
+        }
+        break;
+    default:                                   /* two pieces exchanged */
+        if (pieces == 0)
+            break;
+        at = unit * below(g, (uint32_t)pieces);
+        other = unit * below(g, (uint32_t)pieces);
+        for (size_t i = 0; i < unit; i++) {
+            uint8_t was = p[at + i];
+
+            p[at + i] = p[other + i];
+            p[other + i] = was;
+        }
+        break;
+    }
+}
+
+/* A station with IF, WHILE and at last AWAIT open up to `deep` at once. */
+static void random_nest(struct rng *g, struct sequence *p, int deep)
+{
+    uint8_t opened[32];
+    int in_body = 0;
+
+    p->len = 0;
+    add_bare(p, IND_STATION);
+    if (chance(g, 50))
+        add_bare(p, IND_SKIP);
+    for (int i = 0; i < deep; i++) {
+        uint32_t what = below(g, 20);
+
+        if (in_body || what < 9)
+            opened[i] = IND_IF;
+        else if (what < 19)
+            opened[i] = IND_WHILE;
+        else
+            opened[i] = IND_AWAIT;
+        in_body = in_body || opened[i] == IND_AWAIT;
+        add_bare(p, opened[i]);
+        if (opened[i] == IND_IF && chance(g, 30)) {
+            add_bare(p, IND_SKIP);         /* the nest goes on behind ELSE */
+            add_bare(p, IND_ELSE);
+            opened[i] = IND_ELSE;
+        }
+    }
+    add_bare(p, IND_SKIP);
+    for (int i = deep; i-- > 0;) {
+        if (opened[i] == IND_IF) {
+            add_bare(p, IND_ELSE);
+            add_bare(p, IND_SKIP);
+        }
+        if (opened[i] == IND_WHILE)
+            add_bare(p, IND_OD);
+        else if (opened[i] == IND_AWAIT)
+            add_bare(p, IND_END);
+        else
+            add_bare(p, IND_FI);
+    }
+}
+
+/* Checks and builds of sequences: well shaped, damaged, deep, kinds at random,
+ * bytes at random. */
+static void random_files(struct writer *w, struct rng *g)
+{
+    static struct sequence p;
+    uint32_t what = below(g, 10);
+    size_t buflen;
+
+    if (what == 0) {
+        p.len = below(g, 60);
+        for (size_t i = 0; i < p.len; i++)
+            p.bytes[i] = (uint8_t)(chance(g, 60) ? below(g, 12) : draw(g));
+    } else if (what <= 2) {
+        uint32_t count = below(g, 14);
+
+        p.len = 0;
+        if (chance(g, 90))
+            add_bare(&p, IND_STATION);
+        for (uint32_t i = 0; i < count; i++)
+            add_bare(&p, (uint8_t)(1 + below(g, 10)));
+    } else if (what == 3 && chance(g, 40)) {
+        int deep = 14 + (int)below(g, 6);
+
+        random_nest(g, &p, deep);
+        if (chance(g, 20))
+            damage(g, p.bytes, &p.len, IND_RECORD, sizeof p.bytes);
+    } else {
+        uint32_t soft = 20 + below(g, 160);
+
+        random_sequence(g, &p, 8, soft);
+        if (what >= 5)
+            damage(g, p.bytes, &p.len, IND_RECORD, sizeof p.bytes);
+        if (what == 9)
+            damage(g, p.bytes, &p.len, IND_RECORD, sizeof p.bytes);
+    }
+    if (p.len > 3000)
+        return;
+    if (chance(g, 60)) {
+        case_check(w, p.bytes, p.len);
+        return;
+    }
+    /* a buffer about as long as the list, or any */
+    buflen = 0;
+    for (size_t i = 0; i + 8 <= p.len; i += 8)
+        buflen += p.bytes[i] == IND_STATION ? 32 : 16;
+    for (size_t i = 0; i + 8 <= p.len; i += 8)
+        if (p.bytes[i] == IND_ELSE || p.bytes[i] == IND_FI
+            || p.bytes[i] == IND_OD || p.bytes[i] == IND_END)
+            buflen -= 16;
+    if (chance(g, 20) && buflen > 0)
+        buflen--;
+    else if (chance(g, 20))
+        buflen += below(g, 40);
+    else if (chance(g, 10))
+        buflen = below(g, 40);
+    case_build(w, p.bytes, p.len, buflen);
+}
+
+/* A pick for the state, mostly one that step takes. */
+static void random_pick(struct rng *g, const struct press *x, uint8_t pick[2],
+                        uint32_t good)
+{
+    struct ind_lights_answer l = ind_lights(x->list, x->len, x->state);
+    size_t i = below(g, IND_STATIONS);
+    int taken = chance(g, good);
+    uint8_t from = l.in_turn;
+    uint32_t resets = x->state.b + 1u;
+
+    if (!taken && chance(g, 40))                /* ready, not in turn */
+        from = l.ready & (uint8_t)~l.in_turn;
+    else if (!taken && chance(g, 40))           /* a reset above B */
+        resets = 256;
+    else if (!taken)
+        from = 0;
+    if (from != 0) {
+        while ((from >> i & 1) == 0)
+            i = (i + 1) % IND_STATIONS;
+        pick[0] = (uint8_t)i;
+        pick[1] = (uint8_t)below(g, resets);
+        return;
+    }
+    pick[0] = (uint8_t)below(g, (uint32_t)x->n + 1);
+    pick[1] = (uint8_t)below(g, x->state.b + 2u);
+    if (chance(g, 5))
+        pick[0] = 255;
+}
+
+/* Picks that run takes one after the other, and maybe some it refuses; ends
+ * where no station is ready, mostly.  Answers how many. */
+static size_t random_picks(struct rng *g, const struct press *x,
+                           uint8_t *picks, size_t most, uint32_t good)
+{
+    struct press *y = room(sizeof *y);
+    size_t count = 0;
+
+    *y = *x;
+    while (count < most) {
+        random_pick(g, y, picks + 2 * count, good);
+        if (go(y, picks + 2 * count, 1) == 0 && chance(g, 60))
+            most = count + 1;
+        count++;
+    }
+    free(y);
+    return count;
+}
+
+/* Some calls, one after the other, from a start of the press on. */
+static void history(struct writer *w, struct rng *g, struct press *x)
+{
+    uint8_t resets[IND_STATIONS + 1], picks[64] = { 0 };
+    uint8_t b = chance(g, 85) ? (uint8_t)below(g, 4) : 255;
+    uint32_t calls = 2 + below(g, 6);
+
+    for (size_t i = 0; i <= IND_STATIONS; i++)
+        resets[i] = (uint8_t)below(g, b + 1u);
+    set_going(x, b, resets);
+    if (chance(g, 30)) {
+        size_t count = x->n;
+        size_t loglen = 2 * x->n + below(g, 5);
+
+        if (chance(g, 20))
+            count = below(g, IND_STATIONS + 2);
+        if (chance(g, 20))
+            resets[below(g, IND_STATIONS)] = (uint8_t)(b + 1);
+        if (chance(g, 20))
+            loglen -= 1 + below(g, 2);
+        case_start(w, x->list, x->len, b, resets, count, picks, 0);
+        memset(picks, 0xAB, sizeof picks);
+        case_start(w, x->list, x->len, b, resets, count, picks, loglen);
+    }
+    for (uint32_t i = 0; i < calls; i++) {
+        uint32_t what = below(g, 10);
+        size_t count, loglen;
+
+        if ((what == 6 || what == 7) && x->state.m == 0 && chance(g, 80))
+            what = 5;
+        if (what <= 2) {
+            random_pick(g, x, picks, 75);
+            loglen = log_length(x, 1);
+            if (chance(g, 20))
+                loglen += below(g, 6);
+            else if (chance(g, 10))
+                loglen -= 1 + below(g, 2);
+            case_step(w, x->list, x->len, &x->state, x->log, loglen, picks[0],
+                      picks[1]);
+            go(x, picks, 1);
+        } else if (what <= 5) {
+            uint64_t most = chance(g, 70) ? UINT64_MAX : below(g, 12);
+
+            count = below(g, 12);
+            count = random_picks(g, x, picks, count, 88);
+            loglen = log_length(x, count);
+            if (chance(g, 15))
+                loglen = below(g, (uint32_t)loglen + 1);
+            count = 2 * count;
+            if (chance(g, 5))
+                count++;
+            case_run(w, x->list, x->len, &x->state, x->log, loglen, picks,
+                     count, most);
+            go(x, picks, count / 2);
+        } else if (what <= 7) {
+            uint8_t log[1024];
+            struct ind_state s = x->state;
+
+            loglen = log_length(x, 0);
+            if (loglen > sizeof log)
+                break;
+            memcpy(log, x->log, loglen);
+            if (chance(g, 40))
+                damage(g, log, &loglen, 2, sizeof log);
+            if (chance(g, 20)) {
+                uint8_t v = random_variable(g);
+
+                s.var[v] ^= random_constant(g);
+            }
+            if (chance(g, 10) && s.m > 0)
+                s.m = (uint16_t)below(g, s.m + 1u);
+            case_undo(w, x->list, x->len, &s, log, loglen);
+            if (chance(g, 40))
+                x->state = ind_undo(x->list, x->len, x->state, x->log,
+                                    sizeof x->log).state;
+        } else {
+            case_lights(w, x->list, x->len, &x->state);
+        }
+    }
+}
+
+/* A run call of any kind on a list, state and log that no call made. */
+static void stray(struct writer *w, struct rng *g, struct press *x)
+{
+    struct ind_state s = random_state(g, x);
+    uint8_t log[64], picks[24];
+    size_t loglen = 2 * (x->n + s.m + 1);
+    size_t plen = 2 * below(g, 8);
+
+    if (loglen > sizeof log || chance(g, 10))
+        loglen = below(g, sizeof log);
+    for (size_t i = 0; i < sizeof log; i += 2) {
+        log[i] = (uint8_t)(i / 2 < x->n ? i / 2 : below(g, (uint32_t)x->n));
+        log[i + 1] = (uint8_t)below(g, chance(g, 90) ? s.b + 1u : s.b + 2u);
+    }
+    if (chance(g, 10)) {
+        size_t at = below(g, sizeof log);
+
+        log[at] = (uint8_t)draw(g);
+    }
+    for (size_t i = 0; i < sizeof picks; i += 2) {
+        picks[i] = (uint8_t)below(g, (uint32_t)x->n);
+        picks[i + 1] = (uint8_t)below(g, s.b + 1u);
+    }
+    switch (below(g, 5)) {
+    case 0: {
+        struct ind_lights_answer l = ind_lights(x->list, x->len, s);
+
+        if (l.in_turn != 0 && chance(g, 70))
+            while ((l.in_turn >> picks[0] & 1) == 0)
+                picks[0] = (uint8_t)((picks[0] + 1) % IND_STATIONS);
+        case_step(w, x->list, x->len, &s, log, loglen, picks[0], picks[1]);
+        break;
+    }
+    case 1: {
+        uint64_t most = below(g, 9);
+
+        case_run(w, x->list, x->len, &s, log, loglen, picks, plen, most);
+        break;
+    }
+    case 2:
+        case_undo(w, x->list, x->len, &s, log, loglen);
+        break;
+    case 3:
+        case_lights(w, x->list, x->len, &s);
+        break;
+    default:
+        case_start(w, x->list, x->len, s.b, picks, x->n, log, loglen);
+        break;
+    }
+}
+
+/* Bytes at random as a list, a state, a log: mostly 7, sometimes a sound list
+ * with a state of any bytes. */
+static void noise(struct writer *w, struct rng *g, struct press *x)
+{
+    uint8_t bytes[STATE_BYTES], log[24];
+    struct ind_state s;
+    size_t len = x->len;
+
+    for (size_t i = 0; i < sizeof bytes; i++)
+        bytes[i] = (uint8_t)(chance(g, 50) ? 0 : draw(g));
+    for (size_t i = 0; i < sizeof log; i++)
+        log[i] = (uint8_t)draw(g);
+    s = unpack_state(bytes);
+    if (chance(g, 30)) {
+        s.n = (uint8_t)x->n;
+        s.m = (uint16_t)below(g, 4100);
+    }
+    if (chance(g, 30)) {
+        len = 16 * below(g, 9);
+        for (size_t i = 0; i < len; i++)
+            x->list[i] = (uint8_t)(chance(g, 60) ? below(g, 18) : draw(g));
+    }
+    switch (below(g, 5)) {
+    case 0:
+        case_step(w, x->list, len, &s, log, 24, log[0], log[1]);
+        break;
+    case 1:
+        case_run(w, x->list, len, &s, log, 24, bytes, 1 + below(g, 9), 5);
+        break;
+    case 2:
+        case_undo(w, x->list, len, &s, log, 24);
+        break;
+    case 3:
+        case_lights(w, x->list, len, &s);
+        break;
+    default:
+        case_start(w, x->list, len, log[0], log + 1, below(g, 9), bytes, 17);
+        break;
+    }
+}
+
+/* A press with a built or a hand-made list, of a moderate length. */
+static void random_press(struct rng *g, struct press *x)
+{
+    static struct sequence p;
+    uint32_t most = chance(g, 75) ? 3 : 8;
+
+    if (chance(g, 50)) {
+        uint32_t soft = 30 + below(g, 120);
+
+        do
+            random_sequence(g, &p, most, soft);
+        while (p.len > 400);
+        load(x, &p);
+    } else {
+        random_list(g, x, most);
+    }
+}
+
+static void random_traces(struct writer *w, struct rng *g, struct press *x)
+{
+    static struct sequence p;
+    uint8_t start[10], picks[80] = { 0 };
+    uint8_t b = chance(g, 85) ? (uint8_t)below(g, 4) : 255;
+    uint32_t soft = 30 + below(g, 200);
+    size_t slen, count = below(g, 34), at = 0;
+
+    do
+        random_sequence(g, &p, 5, soft);
+    while (p.len > 600);
+    load(x, &p);
+    start[0] = b;
+    for (size_t i = 1; i < sizeof start; i++)
+        start[i] = (uint8_t)below(g, b + 1u);
+    slen = x->n + 1;
+    set_going(x, b, start + 1);
+    if (chance(g, 5))
+        slen = below(g, 10);
+    /* the trace runs along, so that most calls are taken */
+    while (at < count) {
+        struct ind_state_answer u = { 1, x->state };
+
+        random_pick(g, x, picks + 2 * at, 98);
+        if (chance(g, 25) && (x->state.m > 0 || chance(g, 5))) {
+            picks[2 * at] = 255;
+            picks[2 * at + 1] = 0;
+            u = ind_undo(x->list, x->len, x->state, x->log, sizeof x->log);
+        }
+        if (u.number == IND_FINE)
+            x->state = u.state;
+        else
+            go(x, picks + 2 * at, 1);
+        at++;
+    }
+    count = 2 * count;
+    if (chance(g, 4))
+        count++;
+    if (chance(g, 10))
+        damage(g, p.bytes, &p.len, IND_RECORD, sizeof p.bytes);
+    else if (chance(g, 3))
+        random_nest(g, &p, 17);
+    else if (chance(g, 3))
+        stations(&p, 9);
+    case_trace(w, &p, start, slen, picks, count);
+}
+
+/* One round of random cases of each sort. */
+static void random_round(struct writer *w, struct rng *g)
+{
+    static struct press x;
+
+    for (int i = 0; i < 9; i++)
+        random_files(w, g);
+    for (int i = 0; i < 2; i++) {
+        random_press(g, &x);
+        history(w, g, &x);
+    }
+    for (int i = 0; i < 3; i++) {
+        random_press(g, &x);
+        stray(w, g, &x);
+    }
+    random_press(g, &x);
+    damage(g, x.list, &x.len, IND_ITEM, sizeof x.list);
+    stray(w, g, &x);
+    random_press(g, &x);
+    noise(w, g, &x);
+    for (int i = 0; i < 2; i++)
+        random_traces(w, g, &x);
+}
+
+/* ------------------------------------------------------------------ */
+/* The program                                                        */
+/* ------------------------------------------------------------------ */
+
+/* Prints the table; answers how many of its places are wrong. */
+static int report(const struct writer *w)
+{
+    int wrong = 0;
+
+    fprintf(stderr, "%-7s", "");
+    for (int i = 0; i < NUMBERS; i++)
+        fprintf(stderr, "%8d", i);
+    fputc('\n', stderr);
+    for (int call = CHECK; call <= TRACE; call++) {
+        fprintf(stderr, "%-7s", call_name[call]);
+        for (int i = 0; i < NUMBERS; i++) {
+            unsigned long count = w->table[call][i];
+
+            if (allowed[call][i] || count > 0)
+                fprintf(stderr, "%8lu", count);
+            else
+                fprintf(stderr, "%8s", "-");
+            if ((allowed[call][i] != 0) != (count > 0)) {
+                wrong++;
+                fputc('!', stderr);
+            }
+        }
+        fputc('\n', stderr);
+    }
+    fprintf(stderr, "%lu cases, %lu bytes, the largest %lu\n", w->cases,
+            w->total, w->largest);
+    return wrong;
+}
+
+static int write_stream(uint64_t seed)
+{
+    static struct writer w;
+    struct rng g = { seed };
+
+    w.out = stdout;
+    bench_check(&w);
+    bench_run(&w);
+    refusals(&w);
+    fields(&w);
+    check_order(&w);
+    limits(&w);
+    hand_made(&w);
+    states(&w);
+    for (int i = 0; i < ROUNDS; i++)
+        random_round(&w, &g);
+    if (fflush(stdout) != 0)
+        die("cannot write");
+    return report(&w) != 0;
+}
+
+static int soak(uint64_t seed, unsigned long rounds)
+{
+    static struct writer w;
+    struct rng g = { seed };
+
+    while (rounds-- > 0)
+        random_round(&w, &g);
+    report(&w);
+    return 0;
+}
+
+static int answer_stream(void)
+{
+    size_t size = 1 << 16, len = 0, got, at = 0;
+    uint8_t *bytes = room(size);
+
+    while ((got = fread(bytes + len, 1, size - len, stdin)) > 0) {
+        len += got;
+        if (len == size) {
+            size *= 2;
+            bytes = realloc(bytes, size);
+            if (bytes == NULL)
+                die("no memory");
+        }
+    }
+    while (at < len) {
+        struct one c;
+
+        if (!take_case(&c, bytes, len, &at))
+            die("not a stream of cases");
+        answer_case(&c, stdout);
+        drop_case(&c);
+    }
+    free(bytes);
+    return 0;
+}
+
+int main(int argc, char **argv)
+{
+    if (argc == 3 && strcmp(argv[1], "write") == 0)
+        return write_stream(strtoull(argv[2], NULL, 10));
+    if (argc == 2 && strcmp(argv[1], "answer") == 0)
+        return answer_stream();
+    if (argc == 4 && strcmp(argv[1], "soak") == 0)
+        return soak(strtoull(argv[2], NULL, 10), strtoul(argv[3], NULL, 10));
+    fprintf(stderr, "usage: cases write SEED | answer | soak SEED ROUNDS\n");
+    return 2;
+}

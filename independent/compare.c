@@ -1,0 +1,233 @@
+/*
+ * Compares the panel's library with the independent program, call by call: reads a stream of cases (see cases.c) and makes
+ * each call with both, on buffers of their own; whole answers and whole buffers must be the same. On a difference it cuts
+ * the case down, prints it and ends with status 1.
+ *
+ *   compare FILE
+ */
+#include "press.h"
+#include "../panel/press.h"
+
+#include <stdio.h>
+#include <stdlib.h>
+#include <string.h>
+
+enum { FIELDS = 5, FIELD_BYTES = 65536 };
+
+/* A case: the call and its fields, in the order that cases.c gives. */
+struct field {
+    size_t len;
+    uint8_t bytes[FIELD_BYTES];
+};
+
+struct call {
+    int number;
+    int count;
+    struct field fields[FIELDS];
+};
+
+static struct field ours[FIELDS], theirs[FIELDS];
+
+static const int field_counts[] = {0, 1, 2, 4, 4, 5, 3, 2, 3};
+
+static uint32_t word(const uint8_t *p)
+{
+    return p[0] | (uint32_t)p[1] << 8 | (uint32_t)p[2] << 16 | (uint32_t)p[3] << 24;
+}
+
+static uint16_t half(const uint8_t *p)
+{
+    return (uint16_t)(p[0] | p[1] << 8);
+}
+
+/* The state that 164 bytes spell, as each library has it. */
+static struct ind_state their_state(const uint8_t *p)
+{
+    struct ind_state s;
+    memset(&s, 0, sizeof s);
+    for (int i = 0; i < 32; i++)
+        s.var[i] = word(p + 4 * i);
+    for (int i = 0; i < 8; i++) {
+        s.pos[i] = half(p + 128 + 2 * i);
+        s.pri[i] = (int16_t)half(p + 144 + 2 * i);
+    }
+    s.n = p[160];
+    s.b = p[161];
+    s.m = half(p + 162);
+    return s;
+}
+
+static press_state our_state(const uint8_t *p)
+{
+    struct ind_state t = their_state(p);
+    press_state s;
+    memset(&s, 0, sizeof s);
+    memcpy(s.vars, t.var, sizeof s.vars);
+    memcpy(s.positions, t.pos, sizeof s.positions);
+    memcpy(s.priorities, t.pri, sizeof s.priorities);
+    s.n = t.n;
+    s.b = t.b;
+    s.m = t.m;
+    return s;
+}
+
+static int same_state(press_state s, struct ind_state t)
+{
+    return memcmp(s.vars, t.var, sizeof s.vars) == 0 && memcmp(s.positions, t.pos, sizeof s.positions) == 0
+        && memcmp(s.priorities, t.pri, sizeof s.priorities) == 0 && s.n == t.n && s.b == t.b && s.m == t.m;
+}
+
+/* Both answers to a case are the same, and so are the buffers afterwards. */
+static int agree(const struct call *c)
+{
+    struct field *a = ours, *b = theirs;
+    int same = 1;
+    for (int i = 0; i < c->count; i++) {
+        a[i].len = b[i].len = c->fields[i].len;
+        memcpy(a[i].bytes, c->fields[i].bytes, c->fields[i].len);
+        memcpy(b[i].bytes, c->fields[i].bytes, c->fields[i].len);
+    }
+    switch (c->number) {
+    case 1: {
+        press_checked r = press_check(a[0].bytes, a[0].len);
+        struct ind_check_answer t = ind_check(b[0].bytes, b[0].len);
+        same = r.number == t.number && r.place == t.place;
+        break;
+    }
+    case 2: {
+        press_built r = press_build(a[0].bytes, a[0].len, a[1].bytes, a[1].len);
+        struct ind_build_answer t = ind_build(b[0].bytes, b[0].len, b[1].bytes, b[1].len);
+        same = r.number == t.number && r.place == t.place && r.count == t.count;
+        break;
+    }
+    case 3: {
+        press_started r = press_start(a[0].bytes, a[0].len, a[1].bytes[0], a[2].bytes, a[2].len, a[3].bytes, a[3].len);
+        struct ind_state_answer t =
+            ind_start(b[0].bytes, b[0].len, b[1].bytes[0], b[2].bytes, b[2].len, b[3].bytes, b[3].len);
+        same = r.number == t.number && same_state(r.state, t.state);
+        break;
+    }
+    case 4: {
+        static struct field log;
+        press_state lent = our_state(a[1].bytes);
+        log = a[2];
+        press_stepped r = press_step(our_state(a[1].bytes), a[0].bytes, a[0].len, a[2].bytes, a[2].len, a[3].bytes[0],
+                                     a[3].bytes[1]);
+        uint8_t number =
+            press_advance(&lent, a[0].bytes, a[0].len, log.bytes, log.len, a[3].bytes[0], a[3].bytes[1]);
+        struct ind_state_answer t = ind_step(b[0].bytes, b[0].len, their_state(b[1].bytes), b[2].bytes, b[2].len,
+                                             b[3].bytes[0], b[3].bytes[1]);
+        same = r.number == t.number && same_state(r.state, t.state) && number == t.number && same_state(lent, t.state)
+            && memcmp(log.bytes, b[2].bytes, log.len) == 0;
+        break;
+    }
+    case 5: {
+        size_t most = word(a[4].bytes) | (size_t)word(a[4].bytes + 4) << 32;
+        press_ran r = press_run(our_state(a[1].bytes), a[0].bytes, a[0].len, a[2].bytes, a[2].len, a[3].bytes, a[3].len,
+                                most);
+        struct ind_run_answer t = ind_run(b[0].bytes, b[0].len, their_state(b[1].bytes), b[2].bytes, b[2].len,
+                                          b[3].bytes, b[3].len, most);
+        same = r.number == t.number && same_state(r.state, t.state) && r.steps == t.steps;
+        break;
+    }
+    case 6: {
+        press_undone r = press_undo(our_state(a[1].bytes), a[0].bytes, a[0].len, a[2].bytes, a[2].len);
+        struct ind_state_answer t = ind_undo(b[0].bytes, b[0].len, their_state(b[1].bytes), b[2].bytes, b[2].len);
+        same = r.number == t.number && same_state(r.state, t.state);
+        break;
+    }
+    default:
+        break;
+    }
+    for (int i = 0; i < c->count; i++)
+        same = same && memcmp(a[i].bytes, b[i].bytes, a[i].len) == 0;
+    return same;
+}
+
+/* Bytes that a field must keep: a state, B, a pick and a most-steps number have a fixed length. */
+static int fixed(const struct call *c, int i)
+{
+    return (c->number >= 4 && i == 1) || (c->number == 3 && i == 1) || (c->number == 4 && i == 3)
+        || (c->number == 5 && i == 4);
+}
+
+/* Cuts bytes off the ends of the fields and sets bytes to zero while the two still differ. */
+static void cut(struct call *c)
+{
+    static struct call shorter;
+    int again = 1;
+    while (again) {
+        again = 0;
+        for (int i = 0; i < c->count; i++) {
+            for (size_t by = c->fields[i].len; by > 0 && !fixed(c, i); by /= 2) {
+                shorter = *c;
+                shorter.fields[i].len -= by;
+                if (!agree(&shorter)) {
+                    *c = shorter;
+                    again = 1;
+                    break;
+                }
+            }
+            for (size_t at = 0; at < c->fields[i].len; at++) {
+                if (c->fields[i].bytes[at] == 0)
+                    continue;
+                shorter = *c;
+                shorter.fields[i].bytes[at] = 0;
+                if (!agree(&shorter)) {
+                    *c = shorter;
+                    again = 1;
+                }
+            }
+        }
+    }
+}
+
+static void show(const struct call *c)
+{
+    printf("call %d\n", c->number);
+    for (int i = 0; i < c->count; i++) {
+        printf("field %d, %zu bytes:", i, c->fields[i].len);
+        for (size_t at = 0; at < c->fields[i].len; at++)
+            printf(" %d", c->fields[i].bytes[at]);
+        printf("\n");
+    }
+}
+
+int main(int argc, char **argv)
+{
+    static struct call c;
+    size_t compared = 0, passed_by = 0;
+    FILE *stream = argc == 2 ? fopen(argv[1], "rb") : NULL;
+    if (!stream) {
+        fprintf(stderr, "usage: compare FILE\n");
+        return 2;
+    }
+    while ((c.number = fgetc(stream)) != EOF) {
+        if (c.number < 1 || c.number > 8) {
+            fprintf(stderr, "compare: no such call: %d\n", c.number);
+            return 2;
+        }
+        c.count = field_counts[c.number];
+        for (int i = 0; i < c.count; i++) {
+            int low = fgetc(stream), high = fgetc(stream);
+            c.fields[i].len = (size_t)(low | high << 8);
+            if (high == EOF || fread(c.fields[i].bytes, 1, c.fields[i].len, stream) != c.fields[i].len) {
+                fprintf(stderr, "compare: the stream ends in the middle of a case\n");
+                return 2;
+            }
+        }
+        if (c.number > 6) {
+            passed_by++;
+            continue;
+        }
+        if (!agree(&c)) {
+            cut(&c);
+            show(&c);
+            return 1;
+        }
+        compared++;
+    }
+    fclose(stream);
+    printf("%zu %zu\n", compared, passed_by);
+    return 0;
+}

@@ -1,0 +1,797 @@
+/*
+ * selftest.c - the document's bench cases and some properties.
+ *
+ * Prints each check that failed, then a count; ends with 1 if any failed.
+ */
+#include <stdio.h>
+#include <string.h>
+
+#include "press.h"
+#include "random.h"
+
+static unsigned long checks, failures;
+
+#define CHECK(what) check((what), #what, __LINE__)
+
+static void check(int good, const char *what, int line)
+{
+    checks++;
+    if (!good) {
+        failures++;
+        if (failures <= 50)
+            printf("line %d failed: %s\n", line, what);
+    }
+}
+
+/* Whether the sequence gets this answer from check, and from build with a
+ * buffer that has room, which must stay as it was where it is refused. */
+static int refused(const struct sequence *p, uint8_t number, uint16_t place)
+{
+    static uint8_t buf[IND_ITEM * IND_MAX_ITEMS];
+    struct ind_check_answer c = ind_check(p->bytes, p->len);
+    struct ind_build_answer b;
+
+    memset(buf, 0xA5, sizeof buf);
+    b = ind_build(p->bytes, p->len, buf, sizeof buf);
+    if (number != IND_FINE) {
+        for (size_t i = 0; i < sizeof buf; i++)
+            if (buf[i] != 0xA5)
+                return 0;
+        if (b.count != 0)
+            return 0;
+    }
+    return c.number == number && c.place == place
+        && b.number == number && b.place == place;
+}
+
+static int same_state(const struct ind_state *x, const struct ind_state *y)
+{
+    return memcmp(x->var, y->var, sizeof x->var) == 0
+        && memcmp(x->pos, y->pos, sizeof x->pos) == 0
+        && memcmp(x->pri, y->pri, sizeof x->pri) == 0
+        && x->n == y->n && x->b == y->b && x->m == y->m;
+}
+
+static int zero_state(const struct ind_state *x)
+{
+    static const struct ind_state zero = { 0 };
+
+    return same_state(x, &zero);
+}
+
+static void nested_whiles(struct sequence *p, int deep)
+{
+    p->len = 0;
+    add_bare(p, IND_STATION);
+    for (int i = 0; i < deep; i++)
+        add_bare(p, IND_WHILE);
+    add_bare(p, IND_SKIP);
+    for (int i = 0; i < deep; i++)
+        add_bare(p, IND_OD);
+}
+
+static void dryer(struct sequence *p)
+{
+    p->len = 0;
+    add_bare(p, IND_STATION);
+    add(p, IND_SET, 0, 0, 0, 1);       /* SET v0 := 1 */
+    add_bare(p, IND_STATION);
+    add(p, IND_AWAIT, 0, 0, 0, 1);     /* AWAIT v0 = 1 */
+    add(p, IND_SET, 0, 0, 2, 1);       /* SET v0 := v0+1 */
+    add_bare(p, IND_END);
+}
+
+static void test_check_cases(void)
+{
+    static struct sequence p;
+    static uint8_t buf[IND_ITEM * IND_MAX_ITEMS];
+    struct ind_build_answer b;
+
+    /* P1 no bytes: LENGTH. */
+    p.len = 0;
+    CHECK(refused(&p, IND_LENGTH, 0));
+    CHECK(ind_check(NULL, 0).number == IND_LENGTH);
+
+    /* P2 STATION, SKIP: accepted, list of 3 records. */
+    add_bare(&p, IND_STATION);
+    add_bare(&p, IND_SKIP);
+    CHECK(refused(&p, IND_FINE, 0));
+    memset(buf, 0x5A, sizeof buf);
+    b = ind_build(p.bytes, p.len, buf, 48);
+    CHECK(b.number == IND_FINE && b.place == 0 && b.count == 3);
+    {
+        static const uint8_t want[48] = {
+            16, 0, 0, 0, 0, 0, 0, 0, 0, 0, 1, 0, 0, 0, 0, 0,
+            2, 0, 0, 0, 0, 0, 0, 0, 0, 0, 2, 0, 0, 0, 0, 0,
+            17, 0, 0, 0, 0, 0, 0, 0, 0, 0, 0, 0, 0, 0, 0, 0
+        };
+        CHECK(memcmp(buf, want, 48) == 0);
+        CHECK(buf[48] == 0x5A);
+    }
+    memset(buf, 0x5A, sizeof buf);
+    b = ind_build(p.bytes, p.len, buf, 47);
+    CHECK(b.number == IND_ROOM && b.place == 0 && b.count == 0);
+    CHECK(buf[0] == 0x5A && buf[46] == 0x5A);
+
+    /* P3 STATION: SHAPE at 1. */
+    p.len = 0;
+    add_bare(&p, IND_STATION);
+    CHECK(refused(&p, IND_SHAPE, 1));
+
+    /* P4 SKIP, STATION, SKIP: SHAPE at 0. */
+    p.len = 0;
+    add_bare(&p, IND_SKIP);
+    add_bare(&p, IND_STATION);
+    add_bare(&p, IND_SKIP);
+    CHECK(refused(&p, IND_SHAPE, 0));
+
+    /* P5 STATION, IF, SKIP, FI: SHAPE at 3. */
+    p.len = 0;
+    add_bare(&p, IND_STATION);
+    add_bare(&p, IND_IF);
+    add_bare(&p, IND_SKIP);
+    add_bare(&p, IND_FI);
+    CHECK(refused(&p, IND_SHAPE, 3));
+
+    /* P6 STATION, AWAIT, WHILE: SHAPE at 2. */
+    p.len = 0;
+    add_bare(&p, IND_STATION);
+    add_bare(&p, IND_AWAIT);
+    add_bare(&p, IND_WHILE);
+    CHECK(refused(&p, IND_SHAPE, 2));
+
+    /* P7 SET op 0 with b = 1: FIELD. */
+    p.len = 0;
+    add(&p, IND_SET, 0, 1, 0, 0);
+    CHECK(refused(&p, IND_FIELD, 0));
+    p.len = 0;
+    add_bare(&p, IND_STATION);
+    add(&p, IND_SET, 0, 1, 0, 0);
+    CHECK(refused(&p, IND_FIELD, 1));
+
+    /* P8 SET op 4, k = 32: FIELD; with k = 31 the record is right. */
+    p.len = 0;
+    add_bare(&p, IND_STATION);
+    add(&p, IND_SET, 0, 0, 4, 32);
+    CHECK(refused(&p, IND_FIELD, 1));
+    p.len = 0;
+    add_bare(&p, IND_STATION);
+    add(&p, IND_SET, 0, 0, 4, 31);
+    CHECK(refused(&p, IND_FINE, 0));
+
+    /* Seventeen nested WHILEs round a SKIP, closed, after STATION: DEPTH at
+     * 17; sixteen pass. */
+    nested_whiles(&p, 17);
+    CHECK(refused(&p, IND_DEPTH, 17));
+    nested_whiles(&p, 16);
+    CHECK(refused(&p, IND_FINE, 0));
+
+    /* Nine stations of one SKIP: COUNT. */
+    for (int n = 0; n <= 9; n++) {
+        p.len = 0;
+        add(&p, IND_SET, 0, 0, 0, 0);
+        for (int i = 0; i < n; i++) {
+            add_bare(&p, IND_STATION);
+            add_bare(&p, IND_SKIP);
+        }
+        CHECK(refused(&p, n == 0 || n == 9 ? IND_COUNT : IND_FINE, 0));
+    }
+
+    /* 8,192 bytes pass LENGTH, 8,200 don't. */
+    p.len = 0;
+    add_bare(&p, IND_STATION);
+    while (p.len < 8192)
+        add_bare(&p, IND_SKIP);
+    CHECK(refused(&p, IND_FINE, 0));
+    add_bare(&p, IND_SKIP);
+    CHECK(p.len == 8200);
+    CHECK(refused(&p, IND_LENGTH, 0));
+    p.len = 8191;
+    CHECK(refused(&p, IND_LENGTH, 0));
+
+    /* The longest list. */
+    p.len = 0;
+    for (int i = 0; i < 8; i++) {
+        add_bare(&p, IND_STATION);
+        for (int j = 0; j < 127; j++)
+            add_bare(&p, IND_SKIP);
+    }
+    CHECK(p.len == 8192);
+    b = ind_build(p.bytes, p.len, buf, sizeof buf);
+    CHECK(b.number == IND_FINE && b.count == 1032);
+    b = ind_build(p.bytes, p.len, buf, sizeof buf - 1);
+    CHECK(b.number == IND_ROOM && b.count == 0);
+
+    /* A thousand unclosed WHILEs, alone and with a late fault; a thousand
+     * deep is SHAPE where it is not closed and DEPTH where it is. */
+    p.len = 0;
+    add_bare(&p, IND_STATION);
+    for (int i = 0; i < 1000; i++)
+        add_bare(&p, IND_WHILE);
+    CHECK(refused(&p, IND_SHAPE, 1001));
+    add_bare(&p, IND_END);
+    CHECK(refused(&p, IND_SHAPE, 1001));
+    p.len = 0;
+    add_bare(&p, IND_STATION);
+    while (p.len < IND_MAX_FILE)
+        add_bare(&p, IND_IF);
+    CHECK(refused(&p, IND_SHAPE, 1024));
+    nested_whiles(&p, 511);
+    CHECK(p.len == IND_MAX_FILE);
+    CHECK(refused(&p, IND_DEPTH, 17));
+    p.bytes[IND_MAX_FILE - 8] = IND_FI;
+    CHECK(refused(&p, IND_SHAPE, 1023));
+}
+
+static void test_p9_p10(void)
+{
+    static struct sequence p;
+    uint8_t list[IND_ITEM * 16], log[16], before[16];
+    uint8_t resets[2] = { 0, 0 };
+    static const uint8_t picks[6] = { 0, 0, 0, 0, 1, 1 };
+    struct ind_build_answer b;
+    struct ind_state_answer s;
+    struct ind_run_answer r;
+
+    /* P9 zero minus 1 is 4,294,967,295: in the initial part, in a step, and
+     * against a variable. */
+    p.len = 0;
+    add(&p, IND_SET, 0, 0, 3, 1);
+    add_bare(&p, IND_STATION);
+    add(&p, IND_SET, 1, 1, 3, 1);
+    add(&p, IND_SET, 2, 2, 5, 1);
+    b = ind_build(p.bytes, p.len, list, sizeof list);
+    CHECK(b.number == IND_FINE && b.count == 5);
+    s = ind_start(list, 80, 0, resets, 1, log, sizeof log);
+    CHECK(s.number == IND_FINE && s.state.var[0] == 4294967295u);
+    s = ind_step(list, 80, s.state, log, sizeof log, 0, 0);
+    CHECK(s.number == IND_FINE && s.state.var[1] == 4294967295u);
+    s = ind_step(list, 80, s.state, log, sizeof log, 0, 0);
+    CHECK(s.number == IND_FINE && s.state.var[2] == 1);
+
+    /* P10 two stations, each WHILE v0 = v0 around SKIP, B = 1, resets 0 and
+     * 1. */
+    p.len = 0;
+    for (int i = 0; i < 2; i++) {
+        add_bare(&p, IND_STATION);
+        add(&p, IND_WHILE, 0, 0, 4, 0);
+        add_bare(&p, IND_SKIP);
+        add_bare(&p, IND_OD);
+    }
+    b = ind_build(p.bytes, p.len, list, sizeof list);
+    CHECK(b.number == IND_FINE && b.count == 8);
+    resets[1] = 1;
+    s = ind_start(list, 128, 1, resets, 2, log, sizeof log);
+    CHECK(s.number == IND_FINE && s.state.pri[0] == 0 && s.state.pri[1] == 1);
+    CHECK(log[0] == 0 && log[1] == 0 && log[2] == 1 && log[3] == 1);
+    r = ind_run(list, 128, s.state, log, sizeof log, picks, 4, 100);
+    CHECK(r.number == IND_FINE && r.steps == 2);
+    CHECK(r.state.pri[0] == 0 && r.state.pri[1] == -1);
+    memcpy(before, log, sizeof log);
+    s = ind_step(list, 128, r.state, log, sizeof log, 0, 0);
+    CHECK(s.number == IND_TURN && same_state(&s.state, &r.state));
+    CHECK(memcmp(before, log, sizeof log) == 0);
+    s = ind_step(list, 128, r.state, log, sizeof log, 1, 1);
+    CHECK(s.number == IND_FINE);
+    CHECK(s.state.pri[0] == -1 && s.state.pri[1] == 1);
+    CHECK(log[8] == 1 && log[9] == 1);
+
+    /* the same in one run, by the picks' end, by the number, by a refusal */
+    s = ind_start(list, 128, 1, resets, 2, log, sizeof log);
+    r = ind_run(list, 128, s.state, log, sizeof log, picks, 6, 3);
+    CHECK(r.number == IND_FINE && r.steps == 3 && r.state.m == 3);
+    r = ind_run(list, 128, s.state, log, sizeof log, picks, 6, 1);
+    CHECK(r.number == IND_FINE && r.steps == 1 && r.state.m == 1);
+    r = ind_run(list, 128, s.state, log, sizeof log, picks, 6, 0);
+    CHECK(r.number == IND_FINE && r.steps == 0 && same_state(&r.state, &s.state));
+    r = ind_run(list, 128, s.state, log, 8, picks, 6, SIZE_MAX);
+    CHECK(r.number == IND_ROOM && r.steps == 2 && r.state.m == 2);
+    r = ind_run(list, 128, s.state, log, 8, picks, 5, 0);
+    CHECK(r.number == IND_LENGTH && r.steps == 0);
+    r = ind_run(list, 127, s.state, log, 8, picks, 6, 0);
+    CHECK(r.number == IND_LIST && r.steps == 0);
+    s.state.n = 1;
+    r = ind_run(list, 128, s.state, log, 8, picks, 6, 0);
+    CHECK(r.number == IND_STATE && r.steps == 0);
+}
+
+static void test_dryer(void)
+{
+    static struct sequence p;
+    uint8_t list[IND_ITEM * 7], log[8];
+    static const uint8_t resets[2] = { 0, 0 };
+    static const uint8_t start[3] = { 0, 0, 0 };
+    static const uint8_t picks[8] = { 0, 0, 1, 0, 255, 0, 255, 0 };
+    static const char want[] = "0 1 1 0 0\n1 2 2 0 0\n2 0 0 0 0\n1 2 2 0 0\n"
+                               "0 1 1 0 0\nend 0\n";
+    struct ind_build_answer b;
+    struct ind_state_answer first, s, t;
+    struct ind_lights_answer l;
+    uint8_t out[128];
+    size_t len;
+
+    dryer(&p);
+    b = ind_build(p.bytes, p.len, list, sizeof list);
+    CHECK(b.number == IND_FINE && b.count == 7);   /* "List: 7 records." */
+    {
+        static const uint8_t built[112] = {
+            16, 0, 0, 0, 0, 0, 0, 0, 0, 0, 2, 0, 0, 0, 0, 0,
+            16, 1, 0, 0, 0, 0, 0, 0, 1, 0, 4, 0, 0, 0, 0, 0,
+            3, 0, 0, 0, 1, 0, 0, 0, 0, 0, 3, 0, 0, 0, 0, 0,
+            17, 0, 0, 0, 0, 0, 0, 0, 0, 0, 0, 0, 0, 0, 0, 0,
+            9, 0, 0, 0, 1, 0, 0, 0, 1, 0, 5, 0, 6, 0, 0, 0,
+            3, 0, 0, 2, 1, 0, 0, 0, 1, 1, 0, 0, 0, 0, 0, 0,
+            17, 0, 0, 0, 0, 0, 0, 0, 1, 0, 0, 0, 0, 0, 0, 0
+        };
+        CHECK(memcmp(list, built, sizeof built) == 0);
+    }
+    first = ind_start(list, 112, 0, resets, 2, log, sizeof log);
+    CHECK(first.number == IND_FINE);
+
+    /* "picking 1 first is NOT READY" */
+    s = ind_step(list, 112, first.state, log, sizeof log, 1, 0);
+    CHECK(s.number == IND_NOT_READY && same_state(&s.state, &first.state));
+
+    /* "At the start variable 0 has read mask 2 and write mask 3." */
+    l = ind_lights(list, 112, first.state);
+    CHECK(l.number == IND_FINE && l.rows[0][0] == 2 && l.rows[1][0] == 3);
+    CHECK(l.ready == 1 && l.in_turn == 1 && l.waiting == 2 && l.ended == 0);
+
+    /* P12 picks 0, 1, then two undos give back the start state. */
+    s = ind_step(list, 112, first.state, log, sizeof log, 0, 0);
+    CHECK(s.number == IND_FINE && s.state.var[0] == 1);
+    t = ind_step(list, 112, s.state, log, sizeof log, 1, 0);
+    CHECK(t.number == IND_FINE && t.state.var[0] == 2 && t.state.m == 2);
+    l = ind_lights(list, 112, t.state);
+    CHECK(l.ready == 0 && l.in_turn == 0 && l.waiting == 0 && l.ended == 3);
+    t = ind_undo(list, 112, t.state, log, sizeof log);
+    CHECK(t.number == IND_FINE && same_state(&t.state, &s.state));
+    t = ind_undo(list, 112, t.state, log, sizeof log);
+    CHECK(t.number == IND_FINE && same_state(&t.state, &first.state));
+    t = ind_undo(list, 112, t.state, log, sizeof log);
+    CHECK(t.number == IND_EMPTY && same_state(&t.state, &first.state));
+
+    /* The trace. */
+    memset(out, '?', sizeof out);
+    len = ind_trace(p.bytes, p.len, start, 3, picks, 8, out, sizeof out);
+    CHECK(len == strlen(want) && memcmp(out, want, len) == 0);
+    CHECK(out[len] == '?');
+    memset(out, '?', sizeof out);
+    CHECK(ind_trace(p.bytes, p.len, start, 3, picks, 8, out, 12) == len);
+    CHECK(memcmp(out, want, 12) == 0 && out[12] == '?');
+    CHECK(ind_trace(p.bytes, p.len, start, 3, picks, 8, NULL, 0) == len);
+    len = ind_trace(p.bytes, p.len, NULL, 0, picks, 8, out, sizeof out);
+    CHECK(len == 7 && memcmp(out, "end 13\n", 7) == 0);
+    len = ind_trace(p.bytes, p.len, start, 3, picks, 7, out, sizeof out);
+    CHECK(len == 16 && memcmp(out, "0 1 1 0 0\nend 1\n", 16) == 0);
+    len = ind_trace(NULL, 0, NULL, 0, NULL, 0, out, sizeof out);
+    CHECK(len == 6 && memcmp(out, "end 1\n", 6) == 0);
+    len = ind_trace(p.bytes, p.len, start, 3, picks + 4, 4, out, sizeof out);
+    CHECK(len == 17 && memcmp(out, "0 1 1 0 0\nend 14\n", 17) == 0);
+}
+
+/* The step limit: 4,096 steps stand, one more is FULL, and each can be
+ * withdrawn. */
+static void test_full(void)
+{
+    static struct sequence p;
+    static uint8_t list[64], log[8300], picks[8200], out[60000];
+    static const uint8_t reset[1] = { 0 };
+    static const uint8_t start[2] = { 0, 0 };
+    struct ind_state_answer s, t;
+    struct ind_run_answer r;
+    size_t len;
+
+    p.len = 0;
+    add_bare(&p, IND_STATION);
+    add_bare(&p, IND_WHILE);
+    add_bare(&p, IND_SKIP);
+    add_bare(&p, IND_OD);
+    CHECK(ind_build(p.bytes, p.len, list, sizeof list).count == 4);
+    s = ind_start(list, 64, 0, reset, 1, log, sizeof log);
+    r = ind_run(list, 64, s.state, log, sizeof log, picks, 8200, SIZE_MAX);
+    CHECK(r.number == IND_FULL && r.steps == 4096 && r.state.m == 4096);
+    r = ind_run(list, 64, s.state, log, 8193, picks, 8200, SIZE_MAX);
+    CHECK(r.number == IND_ROOM && r.steps == 4095 && r.state.m == 4095);
+    r = ind_run(list, 64, s.state, log, 8194, picks, 8192, SIZE_MAX);
+    CHECK(r.number == IND_FINE && r.steps == 4096);
+    s = ind_step(list, 64, r.state, NULL, 0, 9, 9);
+    CHECK(s.number == IND_FULL && same_state(&s.state, &r.state));
+    t = ind_undo(list, 64, r.state, log, 8193);
+    CHECK(t.number == IND_LOG && same_state(&t.state, &r.state));
+    t = ind_undo(list, 64, r.state, log, 8194);
+    CHECK(t.number == IND_FINE && t.state.m == 4095);
+    r = ind_run(list, 64, t.state, log, 8194, picks, 2, 1);
+    CHECK(r.number == IND_FINE && r.state.m == 4096);
+
+    len = ind_trace(p.bytes, p.len, start, 2, picks, 8192, out, sizeof out);
+    CHECK(len < sizeof out && memcmp(out + len - 17, "4096 1 1 0\nend 0\n", 17) == 0);
+    len = ind_trace(p.bytes, p.len, start, 2, picks, 8194, out, sizeof out);
+    CHECK(len == 14 && memcmp(out, "0 1 1 0\nend 1\n", 14) == 0);
+}
+
+/* ------------------------------------------------------------------ */
+/* SHAPE against a reader that follows the grammar                    */
+/* ------------------------------------------------------------------ */
+
+/* The grammar is read with one record of sight, so the record at which this
+ * reader fails is the first after which nothing is well shaped. */
+struct reader {
+    const uint8_t *kinds;
+    size_t count;
+    size_t at;
+    int failed;
+};
+
+static int sees(const struct reader *r, uint8_t kind)
+{
+    return !r->failed && r->at < r->count && r->kinds[r->at] == kind;
+}
+
+static void take(struct reader *r, uint8_t kind)
+{
+    if (sees(r, kind))
+        r->at++;
+    else
+        r->failed = 1;
+}
+
+static void read_statements(struct reader *r, int body)
+{
+    int any = 0;
+
+    for (;;) {
+        if (sees(r, IND_SKIP) || sees(r, IND_SET)) {
+            r->at++;
+        } else if (sees(r, IND_IF)) {
+            r->at++;
+            read_statements(r, body);
+            take(r, IND_ELSE);
+            read_statements(r, body);
+            take(r, IND_FI);
+        } else if (!body && sees(r, IND_WHILE)) {
+            r->at++;
+            read_statements(r, 0);
+            take(r, IND_OD);
+        } else if (!body && sees(r, IND_AWAIT)) {
+            r->at++;
+            read_statements(r, 1);
+            take(r, IND_END);
+        } else {
+            break;
+        }
+        any = 1;
+    }
+    if (!any)
+        r->failed = 1;
+}
+
+static void read_sequence(struct reader *r)
+{
+    while (sees(r, IND_SET))
+        r->at++;
+    do {
+        take(r, IND_STATION);
+        read_statements(r, 0);
+    } while (sees(r, IND_STATION));
+    if (r->at < r->count)
+        r->failed = 1;
+}
+
+/* Every sequence of up to `most` kinds. */
+static void test_shape(size_t most)
+{
+    uint8_t kinds[8], file[64];
+
+    for (size_t count = 1; count <= most; count++) {
+        memset(kinds, 1, sizeof kinds);
+        for (;;) {
+            struct reader r = { kinds, count, 0, 0 };
+            struct ind_check_answer c;
+            size_t stations = 0, i;
+
+            memset(file, 0, sizeof file);
+            for (i = 0; i < count; i++) {
+                file[8 * i] = kinds[i];
+                stations += kinds[i] == IND_STATION;
+            }
+            c = ind_check(file, 8 * count);
+            read_sequence(&r);
+            if (stations < 1)
+                CHECK(c.number == IND_COUNT && c.place == 0);
+            else if (r.failed)
+                CHECK(c.number == IND_SHAPE && c.place == r.at);
+            else
+                CHECK(c.number == IND_FINE && c.place == 0);
+
+            for (i = 0; i < count && kinds[i] == 10; i++)
+                kinds[i] = 1;
+            if (i == count)
+                break;
+            kinds[i]++;
+        }
+    }
+}
+
+/* ------------------------------------------------------------------ */
+/* Build against a builder that hands the next step down              */
+/* ------------------------------------------------------------------ */
+
+struct maker {
+    const uint8_t *file;
+    size_t at;          /* the record being read */
+    size_t next;        /* the next free place of the list */
+    uint8_t list[IND_ITEM * IND_MAX_ITEMS];
+    uint8_t station;
+};
+
+/* How many records stand from `at` to the close of the statement there. */
+static size_t statement_length(const uint8_t *file, size_t at)
+{
+    size_t open = 0, i = at;
+
+    do {
+        uint8_t kind = file[8 * i];
+
+        if (kind == IND_IF || kind == IND_WHILE || kind == IND_AWAIT)
+            open++;
+        if (kind == IND_FI || kind == IND_OD || kind == IND_END)
+            open--;
+        i++;
+    } while (open > 0);
+    return i - at;
+}
+
+/* How many list records the statement at `at` makes. */
+static size_t statement_steps(const uint8_t *file, size_t at)
+{
+    size_t steps = 0, len = statement_length(file, at);
+
+    for (size_t i = at; i < at + len; i++) {
+        uint8_t kind = file[8 * i];
+
+        steps += kind == IND_SKIP || kind == IND_SET || kind == IND_IF
+              || kind == IND_WHILE || kind == IND_AWAIT;
+    }
+    return steps;
+}
+
+static int opens_statement(uint8_t kind)
+{
+    return kind == IND_SKIP || kind == IND_SET || kind == IND_IF
+        || kind == IND_WHILE || kind == IND_AWAIT;
+}
+
+/* Makes the statements up to a record that opens none; `after` is the step
+ * that follows the last. */
+static void make_statements(struct maker *k, size_t end, uint8_t inside,
+                            size_t after)
+{
+    while (k->at < end && opens_statement(k->file[8 * k->at])) {
+        uint8_t kind = k->file[8 * k->at];
+        size_t behind = k->at + statement_length(k->file, k->at);
+        size_t mine = k->next++;
+        uint8_t *r = k->list + 16 * mine;
+        size_t follow, t1, t2 = 0;
+
+        if (behind < end && opens_statement(k->file[8 * behind]))
+            follow = mine + statement_steps(k->file, k->at);
+        else
+            follow = after;
+        memcpy(r, k->file + 8 * k->at, 8);
+        r[8] = k->station;
+        r[9] = inside;
+        k->at++;
+        if (kind == IND_IF) {
+            t1 = k->next;
+            make_statements(k, end, inside, follow);
+            k->at++;
+            t2 = k->next;
+            make_statements(k, end, inside, follow);
+            k->at++;
+        } else if (kind == IND_WHILE) {
+            t1 = k->next;
+            t2 = follow;
+            make_statements(k, end, 0, mine);
+            k->at++;
+        } else if (kind == IND_AWAIT) {
+            t1 = k->next;
+            t2 = follow;
+            make_statements(k, end, 1, 0);
+            k->at++;
+        } else {
+            t1 = follow;
+        }
+        r[10] = (uint8_t)(t1 & 255);
+        r[11] = (uint8_t)(t1 >> 8);
+        r[12] = (uint8_t)(t2 & 255);
+        r[13] = (uint8_t)(t2 >> 8);
+    }
+}
+
+static void make_list(struct maker *k, const uint8_t *file, size_t count)
+{
+    size_t n = 0;
+
+    memset(k, 0, sizeof *k);
+    k->file = file;
+    for (size_t i = 0; i < count; i++)
+        n += file[8 * i] == IND_STATION;
+    k->next = n;
+    while (file[8 * k->at] == IND_SET) {
+        memcpy(k->list + 16 * k->next, file + 8 * k->at, 8);
+        k->list[16 * k->next + 8] = 255;
+        k->next++;
+        k->at++;
+    }
+    for (size_t j = 0; j < n; j++) {
+        size_t end = ++k->at, stop = k->next;
+
+        while (end < count && file[8 * end] != IND_STATION)
+            stop += opens_statement(file[8 * end++]);
+        k->station = (uint8_t)j;
+        k->list[16 * j] = IND_INIT;
+        k->list[16 * j + 1] = (uint8_t)j;
+        k->list[16 * j + 8] = (uint8_t)j;
+        k->list[16 * j + 10] = (uint8_t)(k->next & 255);
+        k->list[16 * j + 11] = (uint8_t)(k->next >> 8);
+        make_statements(k, end, 0, stop);
+        k->list[16 * k->next] = IND_STOP;
+        k->list[16 * k->next + 8] = (uint8_t)j;
+        k->next++;
+    }
+}
+
+/* Random sequences: built twice, run, withdrawn. */
+static void test_random(struct rng *g, int rounds)
+{
+    static struct sequence p;
+    static struct maker k;
+    static uint8_t list[IND_ITEM * IND_MAX_ITEMS], log[200], log2[200];
+
+    for (int round = 0; round < rounds; round++) {
+        uint8_t resets[8] = { 0 }, picks[160];
+        uint8_t b = chance(g, 80) ? (uint8_t)below(g, 4) : 255;
+        struct ind_state_answer s, t, first;
+        struct ind_run_answer r;
+        struct ind_build_answer built;
+        struct ind_state seen[81];
+        size_t len, n = 0, steps = 0;
+        int passed[8] = { 0 };
+
+        random_sequence(g, &p, 8, 80 + below(g, 800));
+        built = ind_build(p.bytes, p.len, list, sizeof list);
+        CHECK(built.number == IND_FINE);
+        if (built.number != IND_FINE)
+            continue;
+        make_list(&k, p.bytes, p.len / 8);
+        len = 16 * (size_t)built.count;
+        CHECK(k.next == built.count && memcmp(k.list, list, len) == 0);
+
+        for (size_t i = 0; i < p.len; i += 8)
+            n += p.bytes[i] == IND_STATION;
+        for (size_t i = 0; i < n; i++)
+            resets[i] = (uint8_t)below(g, b + 1u);
+        first = ind_start(list, len, b, resets, n, log, sizeof log);
+        CHECK(first.number == IND_FINE);
+        s = first;
+        seen[0] = s.state;
+        while (steps < 80) {
+            struct ind_lights_answer l = ind_lights(list, len, s.state);
+            size_t i = below(g, 8);
+
+            CHECK(l.number == IND_FINE);
+            CHECK((l.ready & l.waiting) == 0 && (l.ready & l.ended) == 0);
+            CHECK((l.ready | l.waiting | l.ended) == (1 << n) - 1);
+            CHECK((l.in_turn & ~l.ready) == 0);
+            CHECK((l.ready == 0) == (l.in_turn == 0));
+            if (l.in_turn == 0)
+                break;
+            while ((l.in_turn >> i & 1) == 0)
+                i = (i + 1) % 8;
+            picks[2 * steps] = (uint8_t)i;
+            picks[2 * steps + 1] = (uint8_t)below(g, b + 1u);
+            t = ind_step(list, len, s.state, log, sizeof log,
+                         picks[2 * steps], picks[2 * steps + 1]);
+            CHECK(t.number == IND_FINE && t.state.m == s.state.m + 1);
+
+            /* Only what the lights said is written may change. */
+            for (int v = 0; v < 32; v++)
+                if (t.state.var[v] != s.state.var[v])
+                    CHECK((l.rows[1][v] >> i & 1) != 0);
+
+            /* "passed over twice, which is B+n-1": ready stations are passed
+             * over no more often than that in a row. */
+            for (size_t j = 0; j < n; j++) {
+                if (j == i)
+                    passed[j] = 0;
+                else if ((l.ready >> j & 1) != 0)
+                    passed[j]++;
+                CHECK(passed[j] <= (int)b + (int)n - 1);
+            }
+
+            /* Withdrawn at once, the step gives back the state; what else the
+             * state given holds does not matter. */
+            {
+                struct ind_state other = t.state;
+                struct ind_state_answer u;
+
+                other.var[steps % 32] ^= draw(g);
+                other.pri[below(g, (uint32_t)n)] = 0;
+                u = ind_undo(list, len, other, log, sizeof log);
+                CHECK(u.number == IND_FINE || u.number == IND_STATE);
+                if (u.number == IND_FINE)
+                    CHECK(same_state(&u.state, &s.state));
+                u = ind_undo(list, len, t.state, log, sizeof log);
+                CHECK(u.number == IND_FINE && same_state(&u.state, &s.state));
+            }
+            s = t;
+            steps++;
+            seen[steps] = s.state;
+        }
+
+        /* The same steps in one run, with its own log. */
+        memset(log2, 0, sizeof log2);
+        t = ind_start(list, len, b, resets, n, log2, sizeof log2);
+        r = ind_run(list, len, t.state, log2, sizeof log2, picks, 2 * steps,
+                    1000);
+        CHECK(r.number == IND_FINE && r.steps == steps);
+        CHECK(same_state(&r.state, &s.state));
+        CHECK(memcmp(log, log2, 2 * (n + steps)) == 0);
+
+        /* All withdrawn. */
+        for (size_t i = steps; i > 0; i--) {
+            s = ind_undo(list, len, s.state, log, sizeof log);
+            CHECK(s.number == IND_FINE && same_state(&s.state, &seen[i - 1]));
+        }
+        s = ind_undo(list, len, s.state, log, sizeof log);
+        CHECK(s.number == IND_EMPTY && same_state(&s.state, &first.state));
+
+        t = ind_start(list, len - 16, b, resets, n, log, sizeof log);
+        CHECK(t.number == IND_LIST && zero_state(&t.state));
+        t = ind_start(list, len, b, resets, n - 1, log, sizeof log);
+        CHECK(t.number == IND_RESET && zero_state(&t.state));
+        t = ind_start(list, len, b, resets, n, log, 2 * n - 1);
+        CHECK(t.number == IND_ROOM && zero_state(&t.state));
+    }
+}
+
+/* A SKIP that ends a loop which ends a branch goes to its own WHILE: one of
+ * "what the bench would wrongly let through". */
+static void test_loop_ends_branch(void)
+{
+    static struct sequence p;
+    uint8_t list[IND_ITEM * 8];
+    struct ind_build_answer b;
+
+    p.len = 0;
+    add_bare(&p, IND_STATION);
+    add_bare(&p, IND_IF);          /* 1 */
+    add_bare(&p, IND_WHILE);       /* 2 */
+    add_bare(&p, IND_SKIP);        /* 3 */
+    add_bare(&p, IND_OD);
+    add_bare(&p, IND_ELSE);
+    add_bare(&p, IND_SKIP);        /* 4 */
+    add_bare(&p, IND_FI);
+    b = ind_build(p.bytes, p.len, list, sizeof list);
+    CHECK(b.count == 6);
+    CHECK(list[16 + 10] == 2 && list[16 + 12] == 4);
+    CHECK(list[32 + 10] == 3 && list[32 + 12] == 5);
+    CHECK(list[48 + 10] == 2 && list[48 + 12] == 0);
+    CHECK(list[64 + 10] == 5 && list[64 + 12] == 0);
+}
+
+int main(void)
+{
+    struct rng g = { 1 };
+
+    test_check_cases();
+    test_p9_p10();
+    test_dryer();
+    test_full();
+    test_loop_ends_branch();
+    test_shape(6);
+    test_random(&g, 1500);
+    printf("%lu checks, %lu failed\n", checks, failures);
+    return failures != 0;
+}

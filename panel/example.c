@@ -1,0 +1,63 @@
+/*
+ * A panel's loop over the press calls. It builds the "Dryer" sequence, starts a run, and takes keys from standard input
+ * until it ends: two bytes each, a station and its reset to pick it, or 255 and 0 to take the last step back. It prints
+ * a line for the start and for each key: 0 or the number of the refusal, the standing steps, variable 0, and the
+ * priorities.
+ */
+#include "press.h"
+#include <stdio.h>
+
+/* STATION; SET v0 := 1; STATION; AWAIT v0 = 1; SET v0 := v0 + 1; END */
+static const uint8_t dryer[] = {
+    1, 0, 0, 0, 0, 0, 0, 0, 3, 0, 0, 0, 1, 0, 0, 0, 1,  0, 0, 0, 0, 0, 0, 0,
+    9, 0, 0, 0, 1, 0, 0, 0, 3, 0, 0, 2, 1, 0, 0, 0, 10, 0, 0, 0, 0, 0, 0, 0,
+};
+
+/* What the panel lends: room for any list and any run. */
+static uint8_t list[PRESS_LIST_BYTES];
+static uint8_t steps_log[PRESS_LOG_BYTES];
+
+static void show(unsigned number, const press_state *state)
+{
+    printf("%u %u %lu", number, (unsigned)state->m, (unsigned long)state->vars[0]);
+    for (unsigned j = 0; j < state->n; j++)
+        printf(" %d", (int)state->priorities[j]);
+    printf("\n");
+}
+
+int main(void)
+{
+    const press_built built = press_build(dryer, sizeof dryer, list, sizeof list);
+    if (built.number != 0) {
+        printf("sequence refused: %u at record %u\n", (unsigned)built.number, (unsigned)built.place);
+        return 1;
+    }
+    const size_t list_len = (size_t)16 * built.count;
+
+    const uint8_t resets[] = {0, 0};
+    const press_started started = press_start(list, list_len, 0, resets, sizeof resets, steps_log, sizeof steps_log);
+    if (started.number != 0) {
+        printf("start refused: %u\n", (unsigned)started.number);
+        return 1;
+    }
+    press_state state = started.state;
+    show(0, &state);
+
+    for (;;) {
+        const int station = getchar();
+        const int reset = getchar();
+        if (station == EOF || reset == EOF)
+            return 0;
+        unsigned number;
+        if (station == 255 && reset == 0) {
+            const press_undone undone = press_undo(state, list, list_len, steps_log, sizeof steps_log);
+            number = undone.number;
+            state = undone.state; /* refused: the state given */
+        } else {
+            /* refused: the state is still the one lent */
+            number = press_advance(&state, list, list_len, steps_log, sizeof steps_log, (uint8_t)station,
+                                   (uint8_t)reset);
+        }
+        show(number, &state);
+    }
+}

@@ -1,0 +1,163 @@
+/*
+ * The press calls for C and C++: check and build a written sequence, start a run of its list, step it, run it and
+ * take steps back. Link libpanel.a. Each call answers by the rules of document 01 whatever it is given; none prints,
+ * allocates or keeps a pointer.
+ *
+ * Lending. Bytes are lent as a pointer and their number. No pointer is null, also where the number is 0. What a call
+ * writes to (list in press_build; log in press_start, press_step, press_advance and press_run; state in press_advance)
+ * overlaps nothing else that is lent to the same call. The bytes and the fields may hold any values: a list or a state
+ * that is not sound is refused.
+ *
+ * Refusals. Each answer has a number: 0, or that of the refusal, named below. A refused call leaves all that it was
+ * lent as it was; where it answers a state, it is the state given, or zeros from press_start. Only press_run may have
+ * taken steps before the refusal, and those stand.
+ */
+#ifndef PRESS_H
+#define PRESS_H
+
+#include <stddef.h>
+#include <stdint.h>
+
+#ifdef __cplusplus
+extern "C" {
+#endif
+
+/* The refusals, each with the calls that give it. */
+enum {
+    PRESS_LENGTH = 1,     /* check, build: bytes not a multiple of 8, none, or above 8,192; run: odd picks */
+    PRESS_FIELD = 2,      /* check, build: a record outside the table of fields */
+    PRESS_COUNT = 3,      /* check, build: STATION records not 1 to 8 */
+    PRESS_SHAPE = 4,      /* check, build: a record after which no continuation is well shaped, or an unfinished file */
+    PRESS_DEPTH = 5,      /* check, build: a record that is the seventeenth open */
+    PRESS_ROOM = 6,       /* build: the list buffer is short; start, step, advance, run: the log is */
+    PRESS_LIST = 7,       /* start, step, advance, run, undo: the list is not sound */
+    PRESS_STATE = 8,      /* step, advance, run, undo: the state is not sound against the list */
+    PRESS_FULL = 9,       /* step, advance, run: 4,096 steps stand */
+    PRESS_COMPONENT = 10, /* step, advance, run: no such station */
+    PRESS_NOT_READY = 11, /* step, advance, run: the station has ended or is waiting */
+    PRESS_TURN = 12,      /* step, advance, run: the station is ready, and a ready one has a lower priority number */
+    PRESS_RESET = 13,     /* start: resets not one a station, or one above b; step, advance, run: a reset above b */
+    PRESS_EMPTY = 14,     /* undo: no step stands */
+    PRESS_LOG = 15        /* undo: the log is short, has wrong start records, or has a step that is refused */
+};
+
+/* Bytes that are always enough. */
+enum {
+    PRESS_FILE_BYTES = 8192,  /* a written sequence: 1,024 records of 8 */
+    PRESS_LIST_BYTES = 16512, /* a list: 1,032 records of 16 */
+    PRESS_LOG_BYTES = 8208    /* a log: 8 start records and 4,096 steps, 2 each */
+};
+
+/* ---- a written sequence and its list */
+
+/* 0 and place 0; or a refusal and the place of a record, counted from 0. */
+typedef struct press_checked {
+    uint8_t number;
+    uint16_t place;
+} press_checked;
+
+/* 0, place 0 and the count of list records; or a refusal, its place (PRESS_ROOM: 0) and count 0. */
+typedef struct press_built {
+    uint8_t number;
+    uint16_t place;
+    uint16_t count;
+} press_built;
+
+/*
+ * Checks a written sequence. It answers 0 and place 0, or the first of the refusals 1 to 5 and its place.
+ * It writes nothing.
+ */
+press_checked press_check(const uint8_t *file, size_t file_len);
+
+/*
+ * Builds the list of a written sequence into the front of the lent buffer, 16 bytes a record, and answers the count of
+ * its records; bytes past the list stay. Refused (1 to 5 as press_check, then PRESS_ROOM), it leaves the buffer as it
+ * was. The run calls take the list alone: 16 * count bytes of the buffer.
+ */
+press_built press_build(const uint8_t *file, size_t file_len, uint8_t *list, size_t list_len);
+
+/* ---- a run */
+
+/*
+ * What a run has reached: the variables; each station's position, a record number of the list, and its priority, both 0
+ * from station n on; the number of stations n, the largest reset b, and the number of standing steps m.
+ */
+typedef struct press_state {
+    uint32_t vars[32];
+    uint16_t positions[8];
+    int16_t priorities[8];
+    uint8_t n;
+    uint8_t b;
+    uint16_t m;
+} press_state;
+
+/* 0 and the state with no steps; or a refusal and a state of zeros, which is no state to go on from. */
+typedef struct press_started {
+    uint8_t number;
+    press_state state;
+} press_started;
+
+/* 0 and the state after the step; or a refusal and the state given. */
+typedef struct press_stepped {
+    uint8_t number;
+    press_state state;
+} press_stepped;
+
+/* 0 or the refusal that ended the run, the state reached, and the number of steps taken. */
+typedef struct press_ran {
+    uint8_t number;
+    press_state state;
+    size_t steps;
+} press_ran;
+
+/* 0 and the state before the last step; or a refusal and the state given. */
+typedef struct press_undone {
+    uint8_t number;
+    press_state state;
+} press_undone;
+
+/*
+ * Starts a run, with a reset for each station and b the largest reset from then on. It answers the state with no steps,
+ * the initial part run and the priorities set to the resets, and writes a start record for each station to the front of
+ * the log. Refused (PRESS_LIST, PRESS_RESET, PRESS_ROOM, in this order), it answers zeros and leaves the log as it was.
+ */
+press_started press_start(const uint8_t *list, size_t list_len, uint8_t b, const uint8_t *resets, size_t resets_len,
+                          uint8_t *log, size_t log_len);
+
+/*
+ * One step, by the pick of a station and its reset. It answers the state after the step and writes the pick to the log,
+ * at byte 2 * (n + m) of the state given. Refused (7, 8, 9, 6, 10, 11, 12, 13, in this order), it answers the state
+ * given and leaves the log as it was.
+ */
+press_stepped press_step(press_state state, const uint8_t *list, size_t list_len, uint8_t *log, size_t log_len,
+                         uint8_t station, uint8_t reset);
+
+/*
+ * The same step on a state that is lent. It answers 0, leaves the state after the step in the place of the one lent and
+ * writes the pick to the log; or it answers press_step's refusal and leaves the state and the log as they were.
+ */
+uint8_t press_advance(press_state *state, const uint8_t *list, size_t list_len, uint8_t *log, size_t log_len,
+                      uint8_t station, uint8_t reset);
+
+/*
+ * Steps by the picks, two bytes each, a station and its reset, until the first refusal, the end of the picks or the
+ * most-steps number. It answers 0 or the refusal, the state reached and the steps taken, whose picks it writes to the
+ * log. A refused step writes nothing, and those before it stand. PRESS_LENGTH, PRESS_LIST and PRESS_STATE, in this
+ * order, are tested once, before any step: refused so, it answers the state given and 0 steps, and leaves the log as it
+ * was.
+ */
+press_ran press_run(press_state state, const uint8_t *list, size_t list_len, uint8_t *log, size_t log_len,
+                    const uint8_t *picks, size_t picks_len, size_t most);
+
+/*
+ * Takes the last step back: answers the state before it, reached again from the log. It writes nothing; the next step
+ * writes over the record withdrawn. Refused (PRESS_LIST, PRESS_STATE, PRESS_EMPTY, PRESS_LOG, in this order), it
+ * answers the state given.
+ */
+press_undone press_undo(press_state state, const uint8_t *list, size_t list_len, const uint8_t *log, size_t log_len);
+
+#ifdef __cplusplus
+}
+#endif
+
+#endif
