@@ -1,23 +1,27 @@
 -- Wrong programs that the promises of the run calls shut out, each by a witness on "Dryer": one that refuses always, one with a constant
 -- answer, one that writes nothing, and one that makes the first step truly and afterwards only advances m. Assumes nothing.
 use mathlib.Core.Path.{_≡_, refl, sym, ap, _∙_}
+use mathlib.Core.Bool.{false}
 use mathlib.Core.List.{List, [], _∷_, _++_}
 use Prim.Native.Nat.{ℕ, _+_, _≤_}
 use native.Mathlib.Omega.{arith}
+use lib.Dec.{eqb}
 use lib.ListN.{getD, replicate}
-use lib.IntN.{pos}
+use lib.IntN.{ℤ, pos, negsuc, pos-ne-negsuc}
 use Rattle.rules.specs.Words.{each, first, tally, mask, values, changed, written, judge}
 use Rattle.rules.specs.Records.{Pick, record-from, list-record-at}
 use Rattle.rules.specs.Fields.{rules-of, fields-right}
 use Rattle.rules.specs.List.{stations, initials, is-at, init-right, initial-right, outside-targets, inside-targets, later-right, sound-list}
-use Rattle.rules.specs.State.{State, few-low, empty-at, sound-state}
+use Rattle.rules.specs.State.{State, priority, few-low, empty-at, sound-state}
 use Rattle.rules.specs.Values.{set-value, holds}
 use Rattle.rules.specs.Start.{initial-run, started, start-records, Started, start}
 use Rattle.rules.specs.Ready.{ended, waiting, ready, lowest}
-use Rattle.rules.specs.Step.{body-run, step-vars, step-position, charge, stepped, Stepped, step}
+use Rattle.rules.specs.Step.{charged, body-run, step-vars, step-position, charge, stepped, Stepped, step}
 use Rattle.rules.specs.Run.{Ran, steps-from, run}
 use Rattle.rules.specs.Undo.{replay, starts-right, replayed, Undone, undo}
 use Rattle.rules.specs.Lights.{reads, writes, led-to, body, some-of, touches, Lights, lights}
+use Rattle.fair.specs.Fair.{Sch, Update}
+use Rattle.fair.proofs.Relation.{step-fair}
 
 -- the seven records of Dryer's list
 abbrev list : List ℕ
@@ -237,3 +241,23 @@ module _ (f : List ℕ → State → Lights) (promise : (list : List ℕ) (s : S
       let a = ap (λ (a : Lights). a .ready) (sym (h list at-start) ∙ promise list at-start) ∙ lit-at-start in
       let b = ap (λ (a : Lights). a .ready) (sym (h list after-one) ∙ promise list after-one) ∙ lit-after-one in
       omega arith
+
+-- a step that judges readiness after it: the station just released is charged, which UPDATE does not allow
+unfoldable pub late-charge : List ℕ → State → Pick → List ℤ
+late-charge list s p =
+    changed (λ j. charged (eqb j (p .station)) (ready list (stepped list s p) j) (p .reset)) (s .n) (s .priorities)
+
+released : getD (late-charge list at-start (pick 0)) 1 (pos 0) ≡ negsuc 0
+unfolding changed record-from list-record-at set-value holds ended waiting ready body-run step-vars step-position charge stepped late-charge
+released = refl
+
+was-waiting : ready list at-start 1 ≡ false
+unfolding record-from list-record-at holds ended waiting ready
+was-waiting = refl
+
+pub not-late : ((list : List ℕ) (s : State) (p : Pick) → Sch (s .n) (ready list s) (priority s) (p .station) → p .reset ≤ s .b
+    → Update (s .n) (ready list s) (s .b) (priority s) (λ j. getD (late-charge list s p) j (pos 0)) (p .station) (p .reset)) → ⊥
+not-late h = pos-ne-negsuc 0 0 (sym (h list at-start (pick 0) may-go (omega arith) .stays 1 (omega arith) (omega arith) was-waiting) ∙ released)
+  where
+    may-go : Sch 2 (ready list at-start) (priority at-start) 0
+    may-go = step-fair list at-start log (pick 0) (record { vars = refl; positions = refl; priorities = refl }) (ap (λ (a : Stepped). a .number) first-step) .0

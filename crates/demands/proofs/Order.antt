@@ -7,7 +7,7 @@ use native.Mathlib.Nat.{zero-min}
 use native.Mathlib.Omega.{arith}
 use lib.Dec.{eqb, ltb}
 use lib.ListN.{length}
-use borrow.Author.Tests.{eqb-true, eqb-false, ne-eqb}
+use borrow.Author.Tests.{eqb-true, eqb-false, eq-eqb, ne-eqb}
 use Rattle.rules.specs.Words.{if_then_else_, Answer, Test, _refuses_at_, judge, refusal}
 use Rattle.rules.specs.Names.{ROOM}
 use Rattle.rules.specs.Records.{Pick, pick-at}
@@ -17,11 +17,11 @@ use Rattle.rules.specs.State.{State}
 use Rattle.rules.specs.Start.{start-tests, start}
 use Rattle.rules.specs.Step.{step-tests, step}
 use Rattle.rules.specs.Run.{run-tests, steps-from, run}
-use Rattle.rules.specs.Undo.{undo-tests, undo}
+use Rattle.rules.specs.Undo.{Undone, replayed, undo-tests, undo}
 use Rattle.rules.specs.Lights.{lights-tests, lights}
 use Rattle.laws.proofs.Choice.{by-test, if-yes, if-no}
 use Rattle.laws.proofs.Judge.{Numbered, judge-then, judge-before}
-use Rattle.demands.specs.Order.{CheckOrder, BuildOrder, StartOrder, StepOrder, RunOrder, UndoOrder, LightsOrder, RefusalLeaves}
+use Rattle.demands.specs.Order.{CheckOrder, BuildOrder, StartOrder, StepOrder, RunOrder, UndoOrder, LightsOrder, UndoDepends, RefusalLeaves}
 
 -- the number of tests made in order, one test at a time
 judge-number : (b : Bool) (n p : ℕ) (ts : List Test) → judge ((b refuses n at p) ∷ ts) .number ≡ (if b then n else judge ts .number)
@@ -102,6 +102,19 @@ run-number list s log picks =
 pub run-order : RunOrder
 unfolding judge
 run-order list s log picks = run-number list s log picks ∙ simp judge-number
+
+-- what an undo that is not refused answers
+undo-answers : (list : List ℕ) (s : State) (log : List ℕ) → undo list s log .number ≡ 0
+    → undo list s log ≡ record { number = 0; state = replayed list log (s .b) (s .m) .state }
+unfolding undo
+undo-answers list s log e = rw (eq-eqb (refusal (undo-tests list s log)) 0 (sym (undo-number list s log) ∙ e))
+
+pub undo-depends : UndoDepends
+undo-depends list s t log b m e f =
+    undo-answers list s log e
+    ∙ ap {B = Undone} (λ (k : ℕ). record { number = 0; state = replayed list log k (s .m) .state }) b
+    ∙ ap {B = Undone} (λ (k : ℕ). record { number = 0; state = replayed list log (t .b) k .state }) m
+    ∙ sym (undo-answers list t log f)
 
 -- a run that took no step left all as it was
 no-steps : (list picks : List ℕ) (i count : ℕ) (s : State) (log : List ℕ) → steps-from list picks i count s log .steps ≡ 0

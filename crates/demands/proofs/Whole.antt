@@ -9,7 +9,7 @@ use Rattle.history.proofs.Written.{log-written}
 use Rattle.history.proofs.Passed.{passed-over-bound}
 use Rattle.history.proofs.Calls.{refused-leaves, run-single}
 use Rattle.demands.specs.Demands.{Demand1, Demand2, Demand3}
-use Rattle.demands.proofs.Order.{check-order, build-order, start-order, step-order, run-order, undo-order, lights-order, refusal-leaves}
+use Rattle.demands.proofs.Order.{check-order, build-order, start-order, step-order, run-order, undo-order, lights-order, undo-depends, refusal-leaves}
 use Rattle.demands.proofs.Computed.{computes}
 
 pub demand-1 : Demand1
@@ -47,6 +47,7 @@ demand-2 =
         computes = computes file bytes accepted;
       };
       undo-below = undo-below;
+      undo-depends = undo-depends;
       log-written = log-written;
     }
 

@@ -16,7 +16,7 @@ use Rattle.history.specs.Written.{LogWritten}
 use Rattle.history.specs.Passed.{PassedOver}
 use Rattle.history.specs.Calls.{RefusedLeaves, RunSingle}
 use Rattle.demands.specs.Computation.{Computation}
-use Rattle.demands.specs.Order.{CheckOrder, BuildOrder, StartOrder, StepOrder, RunOrder, UndoOrder, LightsOrder, RefusalLeaves}
+use Rattle.demands.specs.Order.{CheckOrder, BuildOrder, StartOrder, StepOrder, RunOrder, UndoOrder, LightsOrder, UndoDepends, RefusalLeaves}
 
 -- 1. "A refusal has a fixed number and a fixed place in the order, and leaves the state and all lent memory untouched; in a run of picks
 -- the steps before it stand." That every call ends and is defined on every input is the totality of the definitions, and of the code
@@ -61,6 +61,7 @@ pub record Demand2 : Type 0 where
   pub determined : Determined
   pub as-written : (file : List ℕ) → Bytes file → Accepted file → AsWritten file
   pub undo-below : UndoBelow
+  pub undo-depends : UndoDepends
   pub log-written : LogWritten
 
 -- 3. "After any calls, for each k from 1 to n at most n-k stations have priority -k or lower, and no station is ready and passed over

@@ -98,6 +98,12 @@ LightsOrder =
     (list : List ℕ) (s : State)
     → lights list s .number ≡ (if not (sound-list list) then 7 else if not (sound-state list s) then 8 else 0)
 
+-- "unless refused it depends on list, log, B and m only"
+abbrev pub UndoDepends : Type 0
+UndoDepends =
+    (list : List ℕ) (s t : State) (log : List ℕ) → s .b ≡ t .b → s .m ≡ t .m → undo list s log .number ≡ 0
+    → undo list t log .number ≡ 0 → undo list s log ≡ undo list t log
+
 -- "A refusal answers its number and the state given (start and lights: all zeros) and writes to no lent buffer"
 pub record RefusalLeaves : Type 0 where
   pub by-build : (file buffer : List ℕ) → build file buffer .number ≢ 0
