@@ -1,0 +1,75 @@
+-- `trace::print_all` is safe and ends. The loop's invariant: the log keeps its length. The measure is how many pieces are left at most. Assumes nothing.
+use Rattle.tracing.specs.Tracing.{Piece, left}
+use Rattle.tracing.specs.View.{as-tracing}
+use Rattle.tracing.proofs.Together.{left-less, left-some}
+use lib.ListN.{length}
+use native.Mathlib.Omega.{arith}
+use mathlib.Core.Path.{_≡_, refl, sym, _∙_, ap}
+use borrow.Author.Tests.{not-true}
+use borrow.Author.Needs.{needs}
+use Rattle.trace.proofs.print_all.Statement.{statement}
+use Rattle.trace.proofs.print_all.Tie as tie
+
+abbrev Inv-loop : tie.InvT-loop
+Inv-loop list log₀ picks tracer₀ log tracer = length log ≡ length log₀
+
+abbrev μ-loop : tie.MeasureT-loop
+μ-loop list log₀ picks tracer₀ log tracer = left picks (as-tracing tracer)
+
+loop-holds : tie.Need-loop-holds Inv-loop μ-loop
+loop-holds c = refl
+
+done-requires : tie.Need-done-requires Inv-loop μ-loop
+done-requires c κs = search needs
+
+next-requires : tie.Need-next-requires Inv-loop μ-loop
+next-requires c κs = search needs
+
+print-requires : tie.Need-print-requires Inv-loop μ-loop
+print-requires c κs = search needs
+
+same-length : tie.Need-same-length Inv-loop μ-loop
+same-length c = search needs
+
+returns : tie.Need-returns Inv-loop μ-loop
+returns c = search needs
+
+loop-less : tie.Need-loop-less Inv-loop μ-loop
+loop-less c =
+    let printed = c .before .before .before .before .before .before in
+    let test = printed .before .before in
+    let turn = test .before .before in
+    let a = turn .before .before .before .before .args in
+    let t = as-tracing (turn .loop .tracer) in
+    let more = left-some (a .picks .now) t (sym (test .before .done .ensures) ∙ not-true _ (test .if1 .taken)) in
+    let fewer = left-less (a .list .now) (a .picks .now) (turn .loop .log) t in
+    let same = ap (λ (p : Piece). left (a .picks .now) (p .tracing)) (printed .next .ensures) in
+    omega (arith, same, more, fewer)
+
+loop-again : tie.Need-loop-again Inv-loop μ-loop
+loop-again c =
+    let printed = c .before .before .before .before .before .before in
+    printed .next .kept .1 .1 .0 ∙ printed .before .before .before .before .loop .inv
+
+same-length-2 : tie.Need-same-length-2 Inv-loop μ-loop
+same-length-2 c = search needs
+
+returns-2 : tie.Need-returns-2 Inv-loop μ-loop
+returns-2 c = search needs
+
+pub print-all-spec : {M : Type 1} → statement M
+print-all-spec =
+    tie.close
+    (tie.spec
+    Inv-loop
+    μ-loop
+    loop-holds
+    done-requires
+    next-requires
+    print-requires
+    same-length
+    returns
+    loop-less
+    loop-again
+    same-length-2
+    returns-2)

@@ -1,0 +1,37 @@
+-- What a trace prints, piece by piece and all told, and how much of its files decides it. These are claims, and proofs/Together.antt and
+-- proofs/Enough.antt show them.
+use mathlib.Core.Path.{_≡_}
+use mathlib.Core.List.{List, _++_}
+use Prim.Native.Nat.{ℕ, _+_, _*_, _/_, _≤_}
+use lib.ListN.{length, take, replicate}
+use Rattle.rules.specs.Names.{max-records, max-list, max-stations, max-steps}
+use Rattle.rules.specs.Trace.{trace}
+use Rattle.tracing.specs.Tracing.{Tracing, piece, still, Opened, opened, printed}
+
+-- a piece is what comes first of what is still to be printed; the rest is still to be printed after it
+abbrev pub PieceFirst : Type 0
+PieceFirst =
+    (list picks log : List ℕ) (t : Tracing)
+    → let p = piece list picks log t in still list picks log t ≡ p .text ++ still list picks (p .log) (p .tracing)
+
+-- where the trace of two files begins, in buffers that are never short
+abbrev pub begun : List ℕ → List ℕ → Opened
+begun program starts = opened program starts (replicate (16 * max-list) 0) (replicate (2 * (max-stations + max-steps)) 0)
+
+-- the pieces put together, with two turns more than there are picks, are the rules' trace
+abbrev pub Traced : Type 0
+Traced =
+    (program starts picks : List ℕ) (turns : ℕ) → 2 + length picks / 2 ≤ turns
+    → let o = begun program starts in printed turns (o .list) picks (o .log) (o .tracing) ≡ trace program starts picks
+
+-- so many bytes of a program or a picks file, and of a start file, are enough: one more than either may have
+abbrev pub enough : ℕ
+enough = 8 * max-records + 1
+
+abbrev pub enough-starts : ℕ
+enough-starts = 1 + max-stations + 1
+
+abbrev pub Enough : Type 0
+Enough =
+    (program starts picks : List ℕ)
+    → trace (take enough program) (take enough-starts starts) (take enough picks) ≡ trace program starts picks

@@ -1,0 +1,5 @@
+-- The code's texts and tracers, set beside the rules; the order of what is printed; and what is claimed of it.
+pub mod Line
+pub mod Tracing
+pub mod View
+pub mod Claims

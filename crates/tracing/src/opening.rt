@@ -1,0 +1,64 @@
+// Where a trace begins: the list built from the program, and the start.
+ghost use mathlib.Core.Path.{_≡_};
+ghost use Prim.Native.Nat.{_*_};
+ghost use lib.ListN.{take};
+ghost use Rattle.tracing.specs.Tracing.{ending, opened};
+ghost use Rattle.tracing.specs.View.{as-tracing, as-opened};
+use crate::Next;
+use crate::Tracer;
+use record::Record;
+use run::State;
+
+// The trace of a program and a start file, whose first byte is B: the list is built into one buffer, and the start records go to the other.
+// A refusal, the program's first, comes next as the last line.
+pub fn open(program: &[u8], starts: &[u8], list: &mut [u8], log: &mut [u8]) -> Tracer
+    ensures { λ r. ⌜ as-opened r (now (list .exit)) (now (log .exit)) ≡ opened (now (program .entry)) (now (starts .entry)) (now (list .entry)) (now (log .entry)) ⌝ }
+{
+    let built = build::build(program, list);
+    if built.number != 0 {
+        return ending(built.number);
+    }
+    if starts.len() == 0 {
+        return ending(Record::RESET);
+    }
+    let started = run::start(used(list, built.count), starts[0], &starts[1..], log);
+    if started.number != 0 {
+        return ending(started.number);
+    }
+    let state = started.state;
+    Tracer {
+        state,
+        count: built.count,
+        next: Next::Start,
+    }
+}
+
+// The records of a list that are counted.
+pub(crate) fn used(list: &[u8], count: u16) -> &[u8]
+    ensures { λ r. ⌜ now r ≡ take (16 * count) (now (list .entry)) ⌝ }
+{
+    let end = 16 * count as usize;
+    if end <= list.len() {
+        &list[..end]
+    } else {
+        list
+    }
+}
+
+// A trace that is refused before it begins: only the last line comes.
+fn ending(number: u8) -> Tracer
+    ensures { λ r. ⌜ as-tracing r ≡ ending number ⌝ }
+{
+    Tracer {
+        state: State {
+            vars: [0u32; 32],
+            positions: [0u16; 8],
+            priorities: [0i16; 8],
+            n: 0,
+            b: 0,
+            m: 0,
+        },
+        count: 0,
+        next: Next::End(number),
+    }
+}
