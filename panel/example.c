@@ -1,8 +1,9 @@
 /*
  * A panel's loop over the press calls. It builds the "Dryer" sequence, starts a run, and takes keys from standard input
  * until it ends: two bytes each, a station and its reset to pick it, or 255 and 0 to take the last step back. It prints
- * a line for the start and for each key: 0 or the number of the refusal, the standing steps, variable 0, and the
- * priorities.
+ * a line for the start and for each key: 0 or the number of the refusal, the standing steps, variable 0, the
+ * priorities, and the lights of the state that is there: which stations are ready, in turn, waiting and ended, and
+ * which read and write variable 0 next.
  */
 #include "press.h"
 #include <stdio.h>
@@ -15,6 +16,7 @@ static const uint8_t dryer[] = {
 
 /* What the panel lends: room for any list and any run. */
 static uint8_t list[PRESS_LIST_BYTES];
+static size_t list_len;
 static uint8_t steps_log[PRESS_LOG_BYTES];
 
 static void show(unsigned number, const press_state *state)
@@ -22,7 +24,9 @@ static void show(unsigned number, const press_state *state)
     printf("%u %u %lu", number, (unsigned)state->m, (unsigned long)state->vars[0]);
     for (unsigned j = 0; j < state->n; j++)
         printf(" %d", (int)state->priorities[j]);
-    printf("\n");
+    const press_lit lit = press_lights(*state, list, list_len);
+    printf(" | %u %u %u %u", (unsigned)lit.ready, (unsigned)lit.in_turn, (unsigned)lit.waiting, (unsigned)lit.ended);
+    printf(" | %u %u\n", (unsigned)lit.rows[0][0], (unsigned)lit.rows[1][0]);
 }
 
 int main(void)
@@ -32,7 +36,7 @@ int main(void)
         printf("sequence refused: %u at record %u\n", (unsigned)built.number, (unsigned)built.place);
         return 1;
     }
-    const size_t list_len = (size_t)16 * built.count;
+    list_len = (size_t)16 * built.count;
 
     const uint8_t resets[] = {0, 0};
     const press_started started = press_start(list, list_len, 0, resets, sizeof resets, steps_log, sizeof steps_log);

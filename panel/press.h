@@ -1,7 +1,7 @@
 /*
- * The press calls for C and C++: check and build a written sequence, start a run of its list, step it, run it and
- * take steps back. Link libpanel.a. Each call answers by the rules of document 01 whatever it is given; none prints,
- * allocates or keeps a pointer.
+ * The press calls for C and C++: check and build a written sequence, start a run of its list, step it, run it, take
+ * steps back and light its stations. Link libpanel.a. Each call answers by the rules of document 01 whatever it is
+ * given; none prints, allocates or keeps a pointer.
  *
  * Lending. Bytes are lent as a pointer and their number. No pointer is null, also where the number is 0. What a call
  * writes to (list in press_build; log in press_start, press_step, press_advance and press_run; state in press_advance)
@@ -30,8 +30,8 @@ enum {
     PRESS_SHAPE = 4,      /* check, build: a record after which no continuation is well shaped, or an unfinished file */
     PRESS_DEPTH = 5,      /* check, build: a record that is the seventeenth open */
     PRESS_ROOM = 6,       /* build: the list buffer is short; start, step, advance, run: the log is */
-    PRESS_LIST = 7,       /* start, step, advance, run, undo: the list is not sound */
-    PRESS_STATE = 8,      /* step, advance, run, undo: the state is not sound against the list */
+    PRESS_LIST = 7,       /* start, step, advance, run, undo, lights: the list is not sound */
+    PRESS_STATE = 8,      /* step, advance, run, undo, lights: the state is not sound against the list */
     PRESS_FULL = 9,       /* step, advance, run: 4,096 steps stand */
     PRESS_COMPONENT = 10, /* step, advance, run: no such station */
     PRESS_NOT_READY = 11, /* step, advance, run: the station has ended or is waiting */
@@ -155,6 +155,29 @@ press_ran press_run(press_state state, const uint8_t *list, size_t list_len, uin
  * answers the state given.
  */
 press_undone press_undo(press_state state, const uint8_t *list, size_t list_len, const uint8_t *log, size_t log_len);
+
+/* ---- the lights */
+
+/*
+ * 0 and the lights; or a refusal and zeros. Each mask has bit i for station i: the stations that are ready, in turn
+ * (ready, and no ready one has a lower priority number), waiting and ended. rows[0][v] has the stations whose next steps
+ * read variable v, rows[1][v] those whose next steps write it.
+ */
+typedef struct press_lit {
+    uint8_t number;
+    uint8_t ready;
+    uint8_t in_turn;
+    uint8_t waiting;
+    uint8_t ended;
+    uint8_t rows[2][32];
+} press_lit;
+
+/*
+ * Which stations are ready, in turn, waiting and ended in a state, and which read and write each variable next; an AWAIT
+ * touches what its condition and its whole body do. It keeps nothing from call to call and writes nothing. Refused
+ * (PRESS_LIST, PRESS_STATE, in this order), it answers zeros and the number.
+ */
+press_lit press_lights(press_state state, const uint8_t *list, size_t list_len);
 
 #ifdef __cplusplus
 }

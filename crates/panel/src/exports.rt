@@ -7,12 +7,15 @@ ghost use Rattle.rules.specs.Start.{start};
 ghost use Rattle.rules.specs.Step.{step};
 ghost use Rattle.rules.specs.Run.{run};
 ghost use Rattle.rules.specs.Undo.{undo};
+ghost use Rattle.rules.specs.Lights.{lights};
 ghost use Rattle.sequence.specs.Answer.{as-answer};
 ghost use Rattle.build.specs.View.{as-built};
 ghost use Rattle.run.specs.View.{as-state, as-started, as-stepped, as-ran, as-undone};
+ghost use Rattle.lights.specs.View.{as-lights};
 ghost use Rattle.panel.specs.View.{as-advanced};
 use crate::advance;
 use build::Built;
+use lights::Lights;
 use run::Ran;
 use run::Started;
 use run::State;
@@ -95,4 +98,13 @@ pub extern "C" fn press_undo(state: State, list: &[u8], log: &[u8]) -> Undone
     ensures { λ r. ⌜ as-undone r ≡ undo (now (list .entry)) (as-state state) (now (log .entry)) ⌝ }
 {
     state.undo(list, log)
+}
+
+// Which stations are ready, in turn, waiting and ended, and which read and write each variable in their next steps. Refused, all zeros but
+// the number.
+#[no_mangle]
+pub extern "C" fn press_lights(state: State, list: &[u8]) -> Lights
+    ensures { λ r. ⌜ as-lights r ≡ lights (now (list .entry)) (as-state state) ⌝ }
+{
+    lights::lights(state, list)
 }

@@ -8,7 +8,7 @@ rule-number variable = 1
 rule-number free = 2
 rule-number outside = 3
 
--- an entry of the table: the rules of a, b, op and k, a decimal digit each
+-- an entry of the table: the rules of a, b, op and k, a digit to base four each
 abbrev pub digits : Rules → ℕ
 digits rules =
-    1000 * rule-number (rules .a) + 100 * rule-number (rules .b) + 10 * rule-number (rules .op) + rule-number (rules .k)
+    64 * rule-number (rules .a) + 16 * rule-number (rules .b) + 4 * rule-number (rules .op) + rule-number (rules .k)

@@ -1,13 +1,16 @@
 // What the fields of a record may hold, by its kind and its op: a table, and the test of a record against it.
 ghost use mathlib.Core.Path.{_≡_};
-ghost use Prim.Native.Nat.{_<_};
+ghost use Prim.Native.Nat.{ℕ, _<_, _^_};
+ghost use lib.Dec.{ltb};
 ghost use Rattle.rules.specs.Fields.{Rule, obeys, rules-of, fields-right};
 ghost use Rattle.record.specs.View.{as-record};
 ghost use Rattle.record.specs.Numbers.{rule-number, digits};
 use crate::Record;
 
-// Variables are numbered from 0 to 31.
-const VARIABLES: u32 = 32;
+// Variables are numbered from 0 to 31, and hold numbers below 2^32.
+const VARIABLES: u64 = 32;
+
+const NUMBERS: u64 = 4294967296;
 
 impl Record {
     // Whether the record is in the document's table of kinds. No kind above 10 is in it, and no op above 7.
@@ -19,10 +22,10 @@ impl Record {
         if kind < 11 {
             if op < 8 {
                 let rules = rules_of(kind, op);
-                return obeyed(rules / 1000, self.a as u32)
-                    & obeyed(rules / 100 % 10, self.b as u32)
-                    & obeyed(rules / 10 % 10, op as u32)
-                    & obeyed(rules % 10, self.k);
+                return obeyed(rules / 64, self.a as u32)
+                    & obeyed(rules / 16 % 4, self.b as u32)
+                    & obeyed(rules / 4 % 4, op as u32)
+                    & obeyed(rules % 4, self.k);
             }
         }
         false
@@ -30,7 +33,7 @@ impl Record {
 }
 
 // What the table says of a kind and an op: the rules of a, b, op and k.
-fn rules_of(kind: u8, op: u8) -> u16
+fn rules_of(kind: u8, op: u8) -> u8
     requires { ⌜ (kind < 11) × (op < 8) ⌝ }
     ensures { λ r. ⌜ r ≡ digits (rules-of kind op) ⌝ }
 {
@@ -39,29 +42,53 @@ fn rules_of(kind: u8, op: u8) -> u16
 }
 
 // Whether a field's value obeys the rule of this number.
-fn obeyed(number: u16, v: u32) -> bool
+fn obeyed(number: u8, v: u32) -> bool
     ensures { λ r. ⌜ ((rule : Rule) → rule-number rule ≡ number → r ≡ obeys rule v) ⌝ }
 {
+    (v as u64) < past(number)
+}
+
+// The least number that breaks the rule of this number.
+fn past(number: u8) -> u64
+    ensures { λ r. ⌜ ((rule : Rule) → rule-number rule ≡ number → (v : ℕ) → v < 2 ^ 32 → ltb v r ≡ obeys rule v) ⌝ }
+{
     match number {
-        0 => v == 0,
-        1 => v < VARIABLES,
-        2 => true,
-        _ => false,
+        0 => 1,
+        1 => VARIABLES,
+        2 => NUMBERS,
+        _ => 0,
     }
 }
 
-// The rules by kind, and by op from 0 to 7, with a decimal digit each for a, b, op and k: 0 must be zero, 1 must be a variable, 2 is
-// free, 3 lies outside the document's table.
-const FIELDS: [[u16; 8]; 11] = [
-    [3333, 3333, 3333, 3333, 3333, 3333, 3333, 3333], // no kind
-    [0000, 0000, 0000, 0000, 0000, 0000, 0000, 0000], // STATION
-    [0000, 0000, 0000, 0000, 0000, 0000, 0000, 0000], // SKIP
-    [1022, 1120, 1122, 1122, 1121, 1121, 3333, 3333], // SET
-    [0122, 0122, 0122, 0122, 0121, 0121, 0121, 0121], // IF
-    [0000, 0000, 0000, 0000, 0000, 0000, 0000, 0000], // ELSE
-    [0000, 0000, 0000, 0000, 0000, 0000, 0000, 0000], // FI
-    [0122, 0122, 0122, 0122, 0121, 0121, 0121, 0121], // WHILE
-    [0000, 0000, 0000, 0000, 0000, 0000, 0000, 0000], // OD
-    [0122, 0122, 0122, 0122, 0121, 0121, 0121, 0121], // AWAIT
-    [0000, 0000, 0000, 0000, 0000, 0000, 0000, 0000], // END
+// The entries of the table: the rules of a, b, op and k as four digits to base four. 0 must be zero, 1 must be a variable, 2 is free, 3
+// lies outside the document's table. Each is named for the fields that are used, V being a k that must be a variable.
+const ZERO: u8 = 0; // 0000
+
+const A_K: u8 = 74; // 1022
+
+const A_B: u8 = 88; // 1120
+
+const A_BK: u8 = 90; // 1122
+
+const A_BV: u8 = 89; // 1121
+
+const B_K: u8 = 26; // 0122
+
+const B_V: u8 = 25; // 0121
+
+const NONE: u8 = 255; // 3333
+
+// The rules by kind, and by op from 0 to 7.
+const FIELDS: [[u8; 8]; 11] = [
+    [NONE, NONE, NONE, NONE, NONE, NONE, NONE, NONE], // no kind
+    [ZERO, ZERO, ZERO, ZERO, ZERO, ZERO, ZERO, ZERO], // STATION
+    [ZERO, ZERO, ZERO, ZERO, ZERO, ZERO, ZERO, ZERO], // SKIP
+    [A_K, A_B, A_BK, A_BK, A_BV, A_BV, NONE, NONE], // SET
+    [B_K, B_K, B_K, B_K, B_V, B_V, B_V, B_V], // IF
+    [ZERO, ZERO, ZERO, ZERO, ZERO, ZERO, ZERO, ZERO], // ELSE
+    [ZERO, ZERO, ZERO, ZERO, ZERO, ZERO, ZERO, ZERO], // FI
+    [B_K, B_K, B_K, B_K, B_V, B_V, B_V, B_V], // WHILE
+    [ZERO, ZERO, ZERO, ZERO, ZERO, ZERO, ZERO, ZERO], // OD
+    [B_K, B_K, B_K, B_K, B_V, B_V, B_V, B_V], // AWAIT
+    [ZERO, ZERO, ZERO, ZERO, ZERO, ZERO, ZERO, ZERO], // END
 ];

@@ -16,8 +16,6 @@ use Rattle.rules.specs.Ready.{ready}
 use Rattle.rules.specs.Step.{charged, charge}
 use Rattle.laws.proofs.Places.{getD-values}
 use Rattle.fair.proofs.Changed.{changed-past}
-use Rattle.run.specs.View.{with-priorities}
-use Rattle.run.specs.declared.State.{State}
 
 module _ {A : Type 0} where
   changed-suc : (f : ℕ → A → A) (n : ℕ) (xs : List A) (d : A) → set (changed f n xs) n (f n (getD xs n d)) ≡ changed f (suc n) xs
@@ -40,12 +38,10 @@ module _ {A : Type 0} where
       rw (same 0 (omega arith) x, changed-same (λ i. f (suc i)) (λ i. g (suc i)) n xs (λ i l. same (suc i) (omega arith)))
 
 -- one turn of a loop that changes the priorities
-pub priorities-turn :
-    (f : ℕ → ℤ → ℤ) (s₀ s : State) (j : ℕ) (p : ℤ) → s ≡ with-priorities s₀ (changed f j (s₀ .priorities)) →
-    p ≡ f j (getD (s .priorities) j (pos 0)) →
-    with-priorities s (set (s .priorities) j p) ≡ with-priorities s₀ (changed f (j + 1) (s₀ .priorities))
-priorities-turn f s₀ s j p so-far new =
-    rw (new, so-far, changed-next) (ap (with-priorities s₀) (rw add-one (changed-suc f j (s₀ .priorities) (pos 0))))
+pub changed-turn :
+    (f : ℕ → ℤ → ℤ) (ps₀ ps : List ℤ) (j : ℕ) (p : ℤ) → ps ≡ changed f j ps₀ → p ≡ f j (getD ps j (pos 0)) →
+    set ps j p ≡ changed f (j + 1) ps₀
+changed-turn f ps₀ ps j p so-far new = rw (new, so-far, changed-next) (rw add-one (changed-suc f j ps₀ (pos 0)))
 
 -- the charge, where the readiness of the stations 0 to 7 is known
 pub charge-known :

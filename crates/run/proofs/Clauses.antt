@@ -5,7 +5,7 @@ use mathlib.Core.Bool.{_&&_}
 use mathlib.Core.List.{List}
 use native.Mathlib.Numerals.{add-one}
 use lib.Dec.{eqb, leb}
-use lib.IntN.{pos, negℤ}
+use lib.IntN.{ℤ, pos, negℤ}
 use lib.Signed.{leZ}
 use Rattle.rules.specs.Words.{each, tally}
 use Rattle.rules.specs.Names.{max-stations, max-steps}
@@ -14,13 +14,13 @@ use Rattle.rules.specs.State.{State, position, priority, few-low, empty-at, sou
 use Rattle.laws.proofs.Places.{each-same}
 use Rattle.list.specs.Given.{later-after, is-at-from}
 use Rattle.list.proofs.Given.{later-counted, is-at-given}
+use Rattle.run.specs.Parts.{priority-in, few-low-in, empty-in}
 
 -- the rule on k, at the count of those that are -k or lower
 pub few-low-counted :
-    (s : State) (i : ℕ) {count : ℕ} → count ≡ tally (λ j. leZ (priority s j) (negℤ (pos (i + 1)))) (s .n) →
-    few-low s (suc i) ≡ leb (count + (i + 1)) (s .n)
-unfolding few-low
-few-low-counted s i counted = rw (counted, add-one)
+    (priorities : List ℤ) (n i : ℕ) {count : ℕ} → count ≡ tally (λ j. leZ (priority-in priorities j) (negℤ (pos (i + 1)))) n →
+    few-low-in priorities n (suc i) ≡ leb (count + (i + 1)) n
+few-low-counted priorities n i counted = rw (counted, add-one)
 
 -- the whole, at the number of stations and the place of the first later record
 pub sound-given :
@@ -29,8 +29,8 @@ pub sound-given :
     ≡ (eqb (s .n) n && leb (s .m) max-steps
     && each (λ j. is-at-from list later 0 j (position s j)) (s .n)
     && each (λ j. leZ (priority s j) (pos (s .b))) (s .n)
-    && each (λ i. few-low s (suc i)) (s .n)
-    && each (λ i. empty-at s (s .n + i)) (max-stations - s .n))
-unfolding sound-state
+    && each (λ i. few-low-in (s .priorities) (s .n) (suc i)) (s .n)
+    && each (λ i. empty-in (s .positions) (s .priorities) (s .n + i)) (max-stations - s .n))
+unfolding sound-state few-low empty-at
 sound-given list s counted found =
     rw (later-counted list counted found, counted, each-same _ _ (s .n) (λ j l. is-at-given list 0 j (position s j)))

@@ -2,6 +2,7 @@ pub mod Signed
 pub mod Filled
 pub mod Clauses
 pub mod Changes
+pub mod Known
 pub mod Picks
 pub mod Written
 pub mod Runs

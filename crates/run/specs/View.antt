@@ -1,7 +1,6 @@
 -- The states and answers of the code, seen as those of the rules. An answer of the rules has the log's bytes too. These are definitions.
 use Prim.Native.Nat.{ℕ}
 use mathlib.Core.List.{List}
-use lib.IntN.{ℤ}
 use Rattle.rules.specs.State as rules-state
 use Rattle.rules.specs.Start as rules-start
 use Rattle.rules.specs.Step as rules-step
@@ -20,18 +19,6 @@ as-state s =
       vars = s .vars;
       positions = s .positions;
       priorities = s .priorities;
-      n = s .n;
-      b = s .b;
-      m = s .m;
-    }
-
--- the same state with other priorities
-abbrev pub with-priorities : State → List ℤ → State
-with-priorities s priorities =
-    record {
-      vars = s .vars;
-      positions = s .positions;
-      priorities = priorities;
       n = s .n;
       b = s .b;
       m = s .m;

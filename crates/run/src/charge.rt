@@ -10,10 +10,8 @@ ghost use lib.IntN.{pos, negℤ, _-ℤ_};
 ghost use lib.Signed.{leZ};
 ghost use Rattle.rules.specs.Words.{changed};
 ghost use Rattle.rules.specs.Names.{max-stations};
-ghost use Rattle.rules.specs.State.{priority};
 ghost use Rattle.rules.specs.Step.{charged};
-ghost use Rattle.run.specs.View.{as-state, with-priorities};
-use crate::State;
+ghost use Rattle.run.specs.Parts.{priority-in};
 
 // One station's priority after a step: the reset if it was picked, one less if it was ready, else the same.
 fn charged_one(p: i16, picked: bool, ready: bool, reset: u8) -> i16
@@ -29,22 +27,24 @@ fn charged_one(p: i16, picked: bool, ready: bool, reset: u8) -> i16
     p
 }
 
-impl State {
-    // The state with its n priorities charged for a pick, by the readiness of the stations before the step. No priority is so low that it
-    // cannot lose 1.
-    pub(crate) fn charged(mut self, all: [bool; 8], station: u8, reset: u8) -> State
-        requires { ⌜ (self .n ≤ max-stations) × ((j : ℕ) → j < self .n → leZ (priority (as-state self) j) (negℤ (pos (self .n))) ≡ false) ⌝ }
-        ensures { λ r. ⌜ r ≡ with-priorities self (changed (λ j. charged (eqb j station) (getD all j false) reset) (self .n) (self .priorities)) ⌝ }
-    {
-        let n = self.n as usize;
-        let picked = station as usize;
-        let mut j: usize = 0;
-        while j < n {
-            let p = self.priorities[j];
-            let q = charged_one(p, j == picked, all[j], reset);
-            self.priorities[j] = q;
-            j += 1;
-        }
-        self
+// The priorities with the first n charged for a pick, by the readiness of the stations before the step. No priority is so low that it
+// cannot lose 1.
+pub(crate) fn charged(
+    mut priorities: [i16; 8],
+    n: usize,
+    all: [bool; 8],
+    picked: usize,
+    reset: u8,
+) -> [i16; 8]
+    requires { ⌜ (n ≤ max-stations) × ((j : ℕ) → j < n → leZ (priority-in priorities j) (negℤ (pos n)) ≡ false) ⌝ }
+    ensures { λ r. ⌜ r ≡ changed (λ j. charged (eqb j picked) (getD all j false) reset) n priorities ⌝ }
+{
+    let mut j: usize = 0;
+    while j < n {
+        let p = priorities[j];
+        let q = charged_one(p, j == picked, all[j], reset);
+        priorities[j] = q;
+        j += 1;
     }
+    priorities
 }

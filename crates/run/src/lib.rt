@@ -1,7 +1,6 @@
 // A run: its state, and the calls that start it, step it, run it and take a step back, over any list, state and log whatever.
 ghost use mathlib.Core.Path.{_≡_};
-ghost use Rattle.rules.specs.State.{position, priority};
-ghost use Rattle.run.specs.View.{as-state};
+ghost use Rattle.run.specs.Parts.{position-in, priority-in};
 
 mod begin;
 mod charge;
@@ -60,24 +59,22 @@ pub struct Undone {
     pub state: State,
 }
 
-impl State {
-    // Station j's position; 0 for a station that the state has no place for.
-    fn position(self, j: usize) -> usize
-        ensures { λ r. ⌜ r ≡ position (as-state self) j ⌝ }
-    {
-        if j < MAX_STATIONS {
-            return self.positions[j] as usize;
-        }
-        0
+// Station j's position; 0 for a station that there is no place for.
+fn position(positions: [u16; 8], j: usize) -> usize
+    ensures { λ r. ⌜ r ≡ position-in positions j ⌝ }
+{
+    if j < MAX_STATIONS {
+        return positions[j] as usize;
     }
+    0
+}
 
-    // Station j's priority; 0 for a station that the state has no place for.
-    fn priority(self, j: usize) -> i16
-        ensures { λ r. ⌜ r ≡ priority (as-state self) j ⌝ }
-    {
-        if j < MAX_STATIONS {
-            return self.priorities[j];
-        }
-        0
+// Station j's priority; 0 for a station that there is no place for.
+fn priority(priorities: [i16; 8], j: usize) -> i16
+    ensures { λ r. ⌜ r ≡ priority-in priorities j ⌝ }
+{
+    if j < MAX_STATIONS {
+        return priorities[j];
     }
+    0
 }

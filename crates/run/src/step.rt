@@ -4,7 +4,7 @@ ghost use Prim.Native.Nat.{_<_};
 ghost use mathlib.Core.Bool.{true, not};
 ghost use mathlib.Core.List.{[], _∷_};
 ghost use Rattle.rules.specs.Words.{values, _refuses_at_, refusal};
-ghost use Rattle.rules.specs.Names.{COMPONENT, NOT-READY, TURN, RESET, max-stations};
+ghost use Rattle.rules.specs.Names.{NOT-READY, TURN, RESET, max-stations};
 ghost use Rattle.rules.specs.List.{sound-list};
 ghost use Rattle.rules.specs.State.{sound-state};
 ghost use Rattle.rules.specs.Ready.{ready};
@@ -14,16 +14,16 @@ ghost use Rattle.run.specs.View.{as-state, as-picked, as-stepped};
 use crate::MAX_STEPS;
 use crate::State;
 use crate::Stepped;
+use crate::charge::charged;
+use crate::ready::lowest_of;
+use crate::ready::readiness;
 use record::Record;
 
-// What refuses a pick, of tests 10 to 13 in their order: a station that the list has not, one that is not ready, one that is not lowest, a
-// reset above b. 0 where nothing does.
-fn pick_refusal(unknown: bool, ready: bool, lowest: bool, above: bool) -> u8
-    ensures { λ r. ⌜ r ≡ refusal ((unknown refuses COMPONENT at 0) ∷ (not ready refuses NOT-READY at 0) ∷ (not lowest refuses TURN at 0) ∷ (above refuses RESET at 0) ∷ []) ⌝ }
+// What refuses the pick of a station of the list, of tests 11 to 13 in their order: it is not ready, it is not lowest, the reset is above
+// b. 0 where nothing does.
+fn pick_refusal(ready: bool, lowest: bool, above: bool) -> u8
+    ensures { λ r. ⌜ r ≡ refusal ((not ready refuses NOT-READY at 0) ∷ (not lowest refuses TURN at 0) ∷ (above refuses RESET at 0) ∷ []) ⌝ }
 {
-    if unknown {
-        return Record::COMPONENT;
-    }
     if !ready {
         return Record::NOT_READY;
     }
@@ -89,11 +89,18 @@ impl State {
         requires { ⌜ Going (now list) (as-state self) ⌝ }
         ensures { λ r. ⌜ as-picked r ≡ picked (now (list .entry)) (as-state self) (record { station = station; reset = reset }) ⌝ }
     {
+        if self.n <= station {
+            return Stepped {
+                number: Record::COMPONENT,
+                state: self,
+            };
+        }
         let at = station as usize;
-        let all = self.readiness(list);
-        let ready = self.ready_of(list, all, at);
-        let lowest = self.lowest_of(list, all, at);
-        let number = pick_refusal(self.n <= station, ready, lowest, self.b < reset);
+        let positions = self.positions;
+        let priorities = self.priorities;
+        let all = readiness(list, &self.vars, positions);
+        let lowest = lowest_of(all, priorities, self.n as usize, at);
+        let number = pick_refusal(all[at], lowest, self.b < reset);
         if number != 0 {
             return Stepped {
                 number,
@@ -116,10 +123,16 @@ impl State {
         let position = values::step_position(&self.vars, e);
         let vars = self.vars;
         let after = values::step_vars(list, vars, e);
-        let mut next = self.charged(all, station, reset);
-        next.vars = after;
-        next.positions[at] = position;
-        next.m += 1;
-        next
+        let mut positions = self.positions;
+        positions[at] = position;
+        let priorities = self.priorities;
+        State {
+            vars: after,
+            positions,
+            priorities: charged(priorities, self.n as usize, all, at, reset),
+            n: self.n,
+            b: self.b,
+            m: self.m + 1,
+        }
     }
 }

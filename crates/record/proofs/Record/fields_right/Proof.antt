@@ -13,8 +13,8 @@ use Rattle.record.proofs.Outside.{kind-outside, op-outside}
 use Rattle.record.proofs.Record.fields_right.Statement.{statement}
 use Rattle.record.proofs.Record.fields_right.Tie as tie
 
--- a rule's number is one decimal digit
-digit : (rule : Rule) → rule-number rule < 10
+-- a rule's number is one digit to base four
+digit : (rule : Rule) → rule-number rule < 4
 digit naught = lit< tt
 digit variable = lit< tt
 digit free = lit< tt

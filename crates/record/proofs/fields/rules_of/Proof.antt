@@ -24,9 +24,6 @@ mul-row c = search needs
 array-copy-out-row : tie.Need-array-copy-out-row
 array-copy-out-row c = search needs
 
-mul-result : tie.Need-mul-result
-mul-result c = search needs
-
 array-read-result : tie.Need-array-read-result
 array-read-result c = search needs
 
@@ -39,4 +36,4 @@ returns c =
 
 pub rules-of-spec : {M : Type 1} → statement M
 rules-of-spec =
-    tie.close (tie.spec mul-row array-copy-out-row mul-result array-read-result returns)
+    tie.close (tie.spec mul-row array-copy-out-row array-read-result returns)

@@ -1,5 +1,4 @@
--- `run::State::next_step` meets its contract.
--- Assumes nothing.
+-- `run::State::next_step` meets its contract. Assumes nothing.
 use borrow.Author.Needs.{needs}
 use Rattle.run.proofs.State.next_step.Statement.{statement}
 use Rattle.run.proofs.State.next_step.Tie as tie

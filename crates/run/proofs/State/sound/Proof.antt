@@ -33,11 +33,12 @@ placed-requires c κs = search needs
 returns-3 : tie.Need-returns-3
 returns-3 c =
     let found = c .before .before in
-    let tested = found .before .before .before in
+    let small = found .before .before .before in
+    let tested = small .before .before in
     rw (
       sound-given _ _ (tested .before .before .stations .ensures) (found .later .ensures),
       eq-eqb _ _ (tested .if1 .left),
-      le-leb _ _ (found .before .if2 .left),
+      le-leb _ _ (small .if2 .left),
       sym (c .before .placed .ensures) ∙ not-true _ (c .if3 .taken),
     )
 
@@ -54,11 +55,12 @@ returns-4 : tie.Need-returns-4
 returns-4 c =
     let placed = c .before .before .before in
     let found = placed .before .before in
-    let tested = found .before .before .before in
+    let small = found .before .before .before in
+    let tested = small .before .before in
     rw (
       sound-given _ _ (tested .before .before .stations .ensures) (found .later .ensures),
       eq-eqb _ _ (tested .if1 .left),
-      le-leb _ _ (found .before .if2 .left),
+      le-leb _ _ (small .if2 .left),
       sym (placed .before .placed .ensures) ∙ not-false _ (placed .if3 .left),
       c .before .before .bounded .ensures,
       c .before .few-low .ensures,

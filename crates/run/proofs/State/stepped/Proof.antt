@@ -1,11 +1,8 @@
--- `run::State::stepped` meets its contract.
--- Assumes nothing.
-use mathlib.Core.Path.{_≡_, ap}
+-- `run::State::stepped` meets its contract. Assumes nothing.
 use native.Mathlib.Omega.{arith}
 use borrow.Author.Needs.{needs}
 use Rattle.rules.specs.Step as rules
 use Rattle.run.specs.View.{as-state}
-use Rattle.run.specs.declared.State.{State}
 use Rattle.run.proofs.Changes.{charge-known}
 use Rattle.run.proofs.Picks.{few-stations, above}
 use Rattle.run.proofs.State.stepped.Statement.{statement}
@@ -20,36 +17,39 @@ step-position-requires c κs = search needs
 step-vars-requires : tie.Need-step-vars-requires
 step-vars-requires c κs = search needs
 
-charged-requires : tie.Need-charged-requires
-charged-requires c κs =
-    let going = c .before .before .before .before .before .before .before .pre .0 in
-    (few-stations _ _ (going .of-list) (going .of-state), above _ _ (going .of-state))
+mul-positions : tie.Need-mul-positions
+mul-positions c = search needs
 
-mul-next : tie.Need-mul-next
-mul-next c = search needs
-
-element-write-next : tie.Need-element-write-next
-element-write-next c =
+array-write-positions : tie.Need-array-write-positions
+array-write-positions c =
     let pre = c .before .before .before .before .before .before .before .before .pre in
     omega (arith, pre .2, few-stations _ _ (pre .0 .of-list) (pre .0 .of-state))
 
-add-next : tie.Need-add-next
-add-next c =
-    let start = c .before .before .before .before .before .before .before .before in
-    let m : c .charged .result .m ≡ start .args .t1 .m = ap (λ (s : State). s .m) (c .charged .ensures) in
+cast-charged : tie.Need-cast-charged
+cast-charged c = search needs
+
+charged-requires : tie.Need-charged-requires
+charged-requires c κs =
+    let going = c .before .before .before .before .before .before .before .before .before .pre .0 in
+    (few-stations _ _ (going .of-list) (going .of-state), above _ _ (going .of-state))
+
+add-t25 : tie.Need-add-t25
+add-t25 c =
+    let start = c .before .before .before .before .before .before .before .before .before .before in
     omega (arith, start .pre .0 .steps-left)
 
 returns : tie.Need-returns
 unfolding rules.stepped
 returns c =
-    let moved = c .before .before .before in
+    let after = c .before .before .before in
+    let moved = after .before .before in
     let start = moved .before .before .before .before .before in
     let a = start .args in
     let going = start .pre .0 in
     let few = few-stations _ _ (going .of-list) (going .of-state) in
     rw (
       c .charged .ensures,
-      c .before .step-vars .ensures,
+      after .step-vars .ensures,
       moved .step-position .ensures,
       moved .before .before .before .next-step .ensures,
       charge-known _ (as-state (a .t1)) (record { station = a .station; reset = a .reset }) (start .pre .1) few,
@@ -62,8 +62,9 @@ stepped-spec =
     next-step-requires
     step-position-requires
     step-vars-requires
+    mul-positions
+    array-write-positions
+    cast-charged
     charged-requires
-    mul-next
-    element-write-next
-    add-next
+    add-t25
     returns)

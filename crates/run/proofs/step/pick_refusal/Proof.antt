@@ -1,5 +1,4 @@
--- `run::step::pick_refusal` meets its contract: the first test that refuses decides.
--- Assumes nothing.
+-- `run::step::pick_refusal` meets its contract: the first test that refuses decides. Assumes nothing.
 use Rattle.rules.specs.Words.{judge}
 use Rattle.run.proofs.step.pick_refusal.Statement.{statement}
 use Rattle.run.proofs.step.pick_refusal.Tie as tie
@@ -18,13 +17,7 @@ returns-3 c = rw (c .before .before .if1 .left, c .before .if2 .left, c .if3 .ta
 
 returns-4 : tie.Need-returns-4
 unfolding judge
-returns-4 c =
-    rw (c .before .before .before .if1 .left, c .before .before .if2 .left, c .before .if3 .left, c .if4 .taken)
-
-returns-5 : tie.Need-returns-5
-unfolding judge
-returns-5 c =
-    rw (c .before .before .before .if1 .left, c .before .before .if2 .left, c .before .if3 .left, c .if4 .left)
+returns-4 c = rw (c .before .before .if1 .left, c .before .if2 .left, c .if3 .left)
 
 pub pick-refusal-spec : {M : Type 1} → statement M
-pick-refusal-spec = tie.close (tie.spec returns returns-2 returns-3 returns-4 returns-5)
+pick-refusal-spec = tie.close (tie.spec returns returns-2 returns-3 returns-4)

@@ -1,0 +1,59 @@
+// The gate's vectors: reads a stream of cases from the file cases.bin in the folder that it runs in, makes every call with the crates here,
+// and prints one answer line a case. The head of independent/cases.c says how a case and its line are spelled.
+// Both files are the independent program's, which independent/build.sh makes: `independent/cases write 1` writes data/cases.bin, and
+// `independent/cases answer`, given that, prints the file stdout.
+use answers::BUILD;
+use answers::CHECK;
+use answers::LIGHTS;
+use answers::RUN;
+use answers::START;
+use answers::STEP;
+use answers::TRACE;
+use answers::UNDO;
+
+mod answers;
+mod cases;
+mod fields;
+mod hash;
+mod lines;
+mod states;
+
+// Reads a case, which begins with its call's number, and writes its line. It answers whether to go on: not at the end of the stream, at a
+// number that no call has, or where the line cannot be written.
+fn answer(file: i32) -> bool {
+    let mut first = [0u8; 1];
+    if io::read_full(file, &mut first) == 0 {
+        return false;
+    }
+    let call = first[0];
+    match call {
+        CHECK => cases::check(file),
+        BUILD => cases::build(file),
+        START => cases::start(file),
+        STEP => cases::step(file),
+        RUN => cases::run(file),
+        UNDO => cases::undo(file),
+        LIGHTS => cases::lights(file),
+        TRACE => cases::trace(file),
+        _ => false,
+    }
+}
+
+// Answers case after case. The loop has to end and nothing says that a stream does, so it counts down from a number that no stream uses up.
+fn answer_all(file: i32) {
+    let mut left = u64::MAX;
+    while left > 0 && answer(file) {
+        left -= 1;
+    }
+}
+
+fn main() {
+    let path = b"cases.bin";
+    let file = os::open_read(path);
+    if file < 0 {
+        os::fail(path);
+        return;
+    }
+    answer_all(file);
+    libc::close(file);
+}
