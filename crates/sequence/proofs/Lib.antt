@@ -2,6 +2,7 @@ pub mod Kind
 pub mod Among
 pub mod Nested
 pub mod Turn
+pub mod Around
 pub mod Walk
 pub mod File
 pub mod Open

@@ -53,12 +53,14 @@ module _ (file : List ℕ) where
 
   module _ (a : wrong-length file ≡ false) where
     -- so every place fits the answer
-    pub few : record-count file ≤ max-records
+    pub short : length file ≤ 8 * max-records
     unfolding wrong-length
-    few =
+    short =
         let uneven-or-none = not (eqb (length file % 8) 0) || eqb (length file) 0 in
-        let l = ltb-false (8 * max-records) (length file) (second-false uneven-or-none _ a) in
-        omega arith
+        ltb-false (8 * max-records) (length file) (second-false uneven-or-none _ a)
+
+    pub few : record-count file ≤ max-records
+    few = omega (arith, short)
 
     pub field-refuses : (place : ℕ) → place ≡ field-place file → place < record-count file → check file ≡ answer FIELD place
     unfolding check judge

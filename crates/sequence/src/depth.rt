@@ -9,7 +9,7 @@ ghost use Rattle.rules.specs.Check.{depth-place};
 use record::Record;
 
 // IF, WHILE and AWAIT open at once, at most.
-const MAX_DEPTH: usize = 16;
+pub(crate) const MAX_DEPTH: usize = 16;
 
 // The place of the first record that is one more open than may be; the number of records where there is none.
 pub fn depth_place(file: &[u8]) -> usize

@@ -1,8 +1,14 @@
 // SHAPE: the parts of a file, each read from the record after the one that opens it.
 ghost use mathlib.Core.Path.{_≡_};
+ghost use mathlib.Core.Bool.{false};
 ghost use mathlib.Core.List.{[]};
+ghost use Prim.Native.Nat.{_*_, _≤_};
+ghost use lib.ListN.{length};
+ghost use Rattle.rules.specs.Names.{STATION, max-records};
 ghost use Rattle.rules.specs.Check.{kinds};
 ghost use Rattle.sequence.specs.Reading.{opened, grown, closed, stride-of, reading, shape-of};
+use crate::MAX_RECORDS;
+use crate::depth::MAX_DEPTH;
 use record::Record;
 
 // An open list of statements: the kind that closes it, whether it stands in an AWAIT body, and whether it has a statement yet.
@@ -100,10 +106,14 @@ impl Part {
 }
 
 // What reading the records of a slice finds, the first of which stands in this part. A part that a record opens is read as a part of
-// its own, from the record after it.
-pub fn read_part(s: &[u8], part: Part) -> Read
+// its own, from the record after it, by a call for each part that is open, as deep as this.
+pub(crate) fn read_part(s: &[u8], part: Part, depth: usize) -> Read
+    requires { ⌜ length (now s) ≤ 8 * max-records ⌝ }
     ensures { λ r. ⌜ r ≡ reading part [] (kinds (now (s .entry))) ⌝ }
 {
+    if depth == 0 {
+        return read_deep(s, part);
+    }
     let mut part = part;
     let mut at: usize = 0;
     while at < s.len() / 8 {
@@ -113,7 +123,7 @@ pub fn read_part(s: &[u8], part: Part) -> Read
                 part = same;
                 at = next;
             }
-            Stride::Into(inner) => match read_part(&s[8 * next..], inner) {
+            Stride::Into(inner) => match read_part(&s[8 * next..], inner, depth - 1) {
                 Read::Closed(place) => {
                     part = part.grown();
                     at = next + place + 1;
@@ -136,8 +146,50 @@ pub fn read_part(s: &[u8], part: Part) -> Read
     Read::Short(part.begun)
 }
 
+// The same with no calls, for a part that lies deeper than an accepted file has: what closes each part that is open around it, and whether
+// that part stands in a body, are kept in two rows, so that no file takes more stack than these.
+fn read_deep(s: &[u8], part: Part) -> Read
+    requires { ⌜ length (now s) ≤ 8 * max-records ⌝ }
+    ensures { λ r. ⌜ r ≡ reading part [] (kinds (now (s .entry))) ⌝ }
+{
+    let mut closes = [0u8; MAX_RECORDS];
+    let mut bodies = [false; MAX_RECORDS];
+    let mut open: usize = 0;
+    let mut part = part;
+    let mut place: usize = 0;
+    while place < s.len() / 8 {
+        let next = place + 1;
+        match part.stride(s[8 * place]) {
+            Stride::On(same) => {
+                part = same;
+                place = next;
+            }
+            Stride::Into(inner) => {
+                closes[open] = part.close;
+                bodies[open] = part.body;
+                open += 1;
+                part = inner;
+                place = next;
+            }
+            Stride::Out => {
+                if open == 0 {
+                    return Read::Closed(place);
+                }
+                open -= 1;
+                part = Part::opened(closes[open], bodies[open]).grown();
+                place = next;
+            }
+            Stride::Off => {
+                return Read::Wrong(place);
+            }
+        }
+    }
+    Read::Short((open == 0) & part.begun)
+}
+
 // The shape of a file: SET records, which are its initial part, and then its stations.
-pub fn read_file(file: &[u8]) -> Shape
+pub(crate) fn read_file(file: &[u8]) -> Shape
+    requires { ⌜ length (now file) ≤ 8 * max-records ⌝ }
     ensures { λ r. ⌜ r ≡ shape-of (kinds (now (file .entry))) ⌝ }
 {
     let count = file.len() / 8;
@@ -146,7 +198,7 @@ pub fn read_file(file: &[u8]) -> Shape
         let kind = file[8 * at];
         if kind == Record::STATION {
             let next = at + 1;
-            return match read_part(&file[8 * next..], Part::opened(Record::STATION, false)) {
+            return match read_stations(&file[8 * next..]) {
                 // Nothing is open around a station, so a record that closed it would be wrong.
                 Read::Closed(place) => Shape::Broken(next + place),
                 Read::Wrong(place) => Shape::Broken(next + place),
@@ -165,4 +217,12 @@ pub fn read_file(file: &[u8]) -> Shape
         at += 1;
     }
     Shape::Broken(count)
+}
+
+// What reading the records after the first STATION finds.
+fn read_stations(s: &[u8]) -> Read
+    requires { ⌜ length (now s) ≤ 8 * max-records ⌝ }
+    ensures { λ r. ⌜ r ≡ reading (opened STATION false) [] (kinds (now (s .entry))) ⌝ }
+{
+    read_part(s, Part::opened(Record::STATION, false), MAX_DEPTH + 1)
 }

@@ -11,7 +11,7 @@ use Rattle.rules.specs.Check.{kinds, wrong-length, field-place}
 use Rattle.sequence.specs.declared.shape.Shape.the-variants.{Whole}
 use Rattle.sequence.specs.Answer.{wrong-count}
 use Rattle.sequence.specs.Reading.{shape-of}
-use Rattle.sequence.proofs.Tests.{few, shape-within, length-refuses, field-refuses, count-refuses, shape-refuses, depth-refuses, accepts}
+use Rattle.sequence.proofs.Tests.{short, few, shape-within, length-refuses, field-refuses, count-refuses, shape-refuses, depth-refuses, accepts}
 use Rattle.sequence.proofs.check.Statement.{statement}
 use Rattle.sequence.proofs.check.Tie as tie
 
@@ -71,7 +71,7 @@ returns-3 c =
     c .new3 .ensures ∙ sym (count-refuses _ (length-passed (e .before .before)) (fields-passed e) wrong)
 
 read-file-requires : tie.Need-read-file-requires
-read-file-requires c κs = search needs
+read-file-requires c κs = short _ (length-passed (c .before .before .before .before))
 
 enum-known-place : tie.Need-enum-known-place
 enum-known-place c = search needs

@@ -1,6 +1,6 @@
 -- `sequence::shape::read_part` meets its contract, which its call of itself on a shorter slice may use. The loop's invariant: what the
 -- slice's records find is found from the place on, in the part as it stands there. Assumes nothing.
-use mathlib.Core.Path.{_≡_, sym}
+use mathlib.Core.Path.{_≡_, refl, sym}
 use mathlib.Core.List.{List, []}
 use Prim.Native.Nat.{ℕ, _+_, _-_, _≤_, _<_}
 use native.Mathlib.Omega.{arith}
@@ -17,6 +17,7 @@ use Rattle.sequence.proofs.Turn.{Found, within-part, turn-end, turn-on,
 use Rattle.sequence.proofs.shape.read_part.Reads as read-part
 use Rattle.sequence.proofs.shape.read_part.Kinds as signature
 use Rattle.sequence.proofs.shape.+read_part.Lts-read_part as lts
+use Rattle.sequence.proofs.shape.read_deep.Reads as read-deep-reads
 use Rattle.sequence.proofs.shape.Part.grown.Reads as grown-reads
 use Rattle.sequence.proofs.shape.Part.stride.Reads as stride-reads
 use Rattle.sequence.proofs.shape.+read_part.{statement}
@@ -35,14 +36,22 @@ below t = and 1 signature.ps (falls 1 signature.ps _<_ μ t) read-part.Pre
 
 -- what the callees ask and give
 abbrev calls : ℕ → lts.Claims
-calls t =
-    (stride-reads.Asked, stride-reads.Learnt, below t, read-part.Post, grown-reads.Asked, grown-reads.Learnt)
+calls t = (
+  read-deep-reads.Asked,
+  read-deep-reads.Learnt,
+  stride-reads.Asked,
+  stride-reads.Learnt,
+  below t,
+  read-part.Post,
+  grown-reads.Asked,
+  grown-reads.Learnt,
+)
 
 abbrev Inv-loop : lts.InvT-loop
-Inv-loop s part₀ at₀ part at = (at ≤ record-count s) × Found s (reading part₀ [] (kinds s)) part at
+Inv-loop s depth part₀ at₀ part at = (at ≤ record-count s) × Found s (reading part₀ [] (kinds s)) part at
 
 abbrev μ-loop : lts.MeasureT-loop
-μ-loop s part₀ at₀ part at = record-count s - at
+μ-loop s depth part₀ at₀ part at = record-count s - at
 
 -- where a record's stride is known, and where the part that it opens has been read
 abbrev Strode : ℕ → Type 0
@@ -52,7 +61,7 @@ abbrev Nested : ℕ → Type 0
 Nested t = lts.After-read-part (calls t) (entry t) read-part.Post Inv-loop μ-loop
 
 abbrev slice : (t : ℕ) → Strode t → List ℕ
-slice t k = k .before .before .before .before .before .args .s .now
+slice t k = k .before .before .before .before .before .before .args .s .now
 
 abbrev place : (t : ℕ) → Strode t → ℕ
 place t k = k .before .before .before .loop .at
@@ -65,6 +74,12 @@ place-within : (t : ℕ) (r : Nested t) (v : Read) → r .read-part .result ≡ 
     → Within v (record-count (slice t (strode t r)) - (place t (strode t r) + 1))
 place-within t r v is =
     within-part (slice t (strode t r)) _ _ _ (strode t r .before .before .loop-test .taken) (r .read-part .ensures) v is
+
+read-deep-requires : (t : ℕ) → lts.Need-read-deep-requires (calls t) (entry t) read-part.Post Inv-loop μ-loop
+read-deep-requires t c κs = search needs
+
+returns : (t : ℕ) → lts.Need-returns (calls t) (entry t) read-part.Post Inv-loop μ-loop
+returns t c = c .read-deep .ensures
 
 loop-holds : (t : ℕ) → lts.Need-loop-holds (calls t) (entry t) read-part.Post Inv-loop μ-loop
 loop-holds t c = (omega arith, shift-none _)
@@ -91,7 +106,7 @@ loop-again : (t : ℕ) → lts.Need-loop-again (calls t) (entry t) read-part.Pos
 loop-again t c =
     let k = c .before .before .before in (
       search needs,
-      turn-on _ _ _ _ (k .before .before .loop-test .taken) (k .before .before .before .loop .inv .1) _ (k .stride .ensures) _ (c .before .same .given .1),
+      turn-on _ _ _ _ _ (k .before .before .loop-test .taken) (k .before .before .before .loop .inv .1) _ (k .stride .ensures) _ (c .before .same .given .1),
     )
 
 enum-known-inner : (t : ℕ) → lts.Need-enum-known-inner (calls t) (entry t) read-part.Post Inv-loop μ-loop
@@ -108,6 +123,9 @@ part-read-part-start t c = search needs
 
 part-read-part-end : (t : ℕ) → lts.Need-part-read-part-end (calls t) (entry t) read-part.Post Inv-loop μ-loop
 part-read-part-end t c = search needs
+
+sub-read-part-2 : (t : ℕ) → lts.Need-sub-read-part-2 (calls t) (entry t) read-part.Post Inv-loop μ-loop
+sub-read-part-2 t c = search needs
 
 read-part-requires : (t : ℕ) → lts.Need-read-part-requires (calls t) (entry t) read-part.Post Inv-loop μ-loop
 read-part-requires t c κs = search needs
@@ -146,13 +164,13 @@ loop-again-2 t c =
 enum-known-place-2 : (t : ℕ) → lts.Need-enum-known-place-2 (calls t) (entry t) read-part.Post Inv-loop μ-loop
 enum-known-place-2 t c = search needs
 
-add-t23 : (t : ℕ) → lts.Need-add-t23 (calls t) (entry t) read-part.Post Inv-loop μ-loop
-add-t23 t c =
+add-t26 : (t : ℕ) → lts.Need-add-t26 (calls t) (entry t) read-part.Post Inv-loop μ-loop
+add-t26 t c =
     let h = place-within t (c .before .before .before) _ (c .before .place2 .given .1) in
     omega arith
 
-returns : (t : ℕ) → lts.Need-returns (calls t) (entry t) read-part.Post Inv-loop μ-loop
-returns t c =
+returns-2 : (t : ℕ) → lts.Need-returns-2 (calls t) (entry t) read-part.Post Inv-loop μ-loop
+returns-2 t c =
     let r = c .before .before .before in
     let k = strode t r in
     sym (turn-wrong _ _ _ _ (k .before .before .loop-test .taken) (k .before .before .before .loop .inv .1) _ (k .stride .ensures)
@@ -161,8 +179,8 @@ returns t c =
 enum-told : (t : ℕ) → lts.Need-enum-told (calls t) (entry t) read-part.Post Inv-loop μ-loop
 enum-told t c = search needs
 
-returns-2 : (t : ℕ) → lts.Need-returns-2 (calls t) (entry t) read-part.Post Inv-loop μ-loop
-returns-2 t c =
+returns-3 : (t : ℕ) → lts.Need-returns-3 (calls t) (entry t) read-part.Post Inv-loop μ-loop
+returns-3 t c =
     let r = c .before .before in
     let k = strode t r in
     sym (turn-short _ _ _ _ (k .before .before .loop-test .taken) (k .before .before .before .loop .inv .1) _ (k .stride .ensures)
@@ -171,21 +189,21 @@ returns-2 t c =
 enum-told-2 : (t : ℕ) → lts.Need-enum-told-2 (calls t) (entry t) read-part.Post Inv-loop μ-loop
 enum-told-2 t c = search needs
 
-returns-3 : (t : ℕ) → lts.Need-returns-3 (calls t) (entry t) read-part.Post Inv-loop μ-loop
-returns-3 t c =
+returns-4 : (t : ℕ) → lts.Need-returns-4 (calls t) (entry t) read-part.Post Inv-loop μ-loop
+returns-4 t c =
     let k = c .before .before in
-    sym (turn-out _ _ _ _ (k .before .before .loop-test .taken) (k .before .before .before .loop .inv .1) _ (k .stride .ensures) (c .enum-told2 .given .1))
+    sym (turn-out _ _ _ _ _ (k .before .before .loop-test .taken) (k .before .before .before .loop .inv .1) _ (k .stride .ensures) (c .enum-told2 .given .1) refl)
 
 enum-told-3 : (t : ℕ) → lts.Need-enum-told-3 (calls t) (entry t) read-part.Post Inv-loop μ-loop
 enum-told-3 t c = search needs
 
-returns-4 : (t : ℕ) → lts.Need-returns-4 (calls t) (entry t) read-part.Post Inv-loop μ-loop
-returns-4 t c =
-    let k = c .before .before in
-    sym (turn-off _ _ _ _ (k .before .before .loop-test .taken) (k .before .before .before .loop .inv .1) _ (k .stride .ensures) (c .enum-told3 .given .1))
-
 returns-5 : (t : ℕ) → lts.Need-returns-5 (calls t) (entry t) read-part.Post Inv-loop μ-loop
-returns-5 t c = sym (turn-end _ _ _ _ (c .before .loop .inv .1) (c .loop-test .left))
+returns-5 t c =
+    let k = c .before .before in
+    sym (turn-off _ _ _ _ _ (k .before .before .loop-test .taken) (k .before .before .before .loop .inv .1) _ (k .stride .ensures) (c .enum-told3 .given .1))
+
+returns-6 : (t : ℕ) → lts.Need-returns-6 (calls t) (entry t) read-part.Post Inv-loop μ-loop
+returns-6 t c = sym (turn-end _ _ _ _ _ (c .before .loop .inv .1) (c .loop-test .left))
 
 pub +read-part-spec : {M : Type 1} → statement M
 +read-part-spec =
@@ -195,6 +213,8 @@ pub +read-part-spec : {M : Type 1} → statement M
     read-part.Post
     Inv-loop
     μ-loop
+    (read-deep-requires t)
+    (returns t)
     (loop-holds t)
     (add-next t)
     (mul-stride t)
@@ -208,6 +228,7 @@ pub +read-part-spec : {M : Type 1} → statement M
     (sub-read-part t)
     (part-read-part-start t)
     (part-read-part-end t)
+    (sub-read-part-2 t)
     (read-part-requires t)
     (enum-known-place t)
     (grown-requires t)
@@ -216,12 +237,12 @@ pub +read-part-spec : {M : Type 1} → statement M
     (loop-less-2 t)
     (loop-again-2 t)
     (enum-known-place-2 t)
-    (add-t23 t)
-    (returns t)
-    (enum-told t)
+    (add-t26 t)
     (returns-2 t)
-    (enum-told-2 t)
+    (enum-told t)
     (returns-3 t)
-    (enum-told-3 t)
+    (enum-told-2 t)
     (returns-4 t)
+    (enum-told-3 t)
     (returns-5 t)
+    (returns-6 t)

@@ -2,18 +2,16 @@
 -- shape is found from the place on. Assumes nothing.
 use mathlib.Core.Path.{_≡_, sym, ap, _∙_}
 use mathlib.Core.Bool.{true, false}
-use mathlib.Core.List.{List, []}
+use mathlib.Core.List.{List}
 use Prim.Native.Nat.{ℕ, _+_, _-_, _≤_}
 use native.Mathlib.Omega.{arith}
 use borrow.Author.Needs.{needs}
 use Rattle.rules.specs.Records.{record-count}
 use Rattle.rules.specs.Check.{kinds}
-use Rattle.sequence.specs.declared.shape.Part.{Part}
 use Rattle.sequence.specs.declared.shape.Read.{Read}
 use Rattle.sequence.specs.declared.shape.Read.the-variants.{Short}
 use Rattle.sequence.specs.declared.shape.Shape.the-variants.{Broken}
-use Rattle.sequence.specs.Reading.{reading, shape-of}
-use Rattle.sequence.proofs.Kind.{from}
+use Rattle.sequence.specs.Reading.{shape-of}
 use Rattle.sequence.proofs.Nested.{Within}
 use Rattle.sequence.proofs.Turn.{within-part}
 use Rattle.sequence.proofs.Walk.{onward, shaped}
@@ -29,10 +27,10 @@ abbrev μ-loop : tie.MeasureT-loop
 
 -- where the stations have been read
 abbrev Stations : Type 0
-Stations = tie.After-read-part Inv-loop μ-loop
+Stations = tie.After-read-stations Inv-loop μ-loop
 
 abbrev turn : Stations → tie.In-loop Inv-loop μ-loop
-turn r = r .before .before .before .before .before
+turn r = r .before .before .before .before
 
 abbrev bytes : Stations → List ℕ
 bytes r = turn r .before .before .before .args .file .now
@@ -40,14 +38,13 @@ bytes r = turn r .before .before .before .args .file .now
 abbrev next : Stations → ℕ
 next r = turn r .before .loop .at + 1
 
-place-within : (r : Stations) (v : Read) → r .read-part .result ≡ v → Within v (record-count (bytes r) - next r)
-place-within r v is = within-part (bytes r) _ _ _ (turn r .loop-test .taken) (r .read-part .ensures) v is
+place-within : (r : Stations) (v : Read) → r .read-stations .result ≡ v → Within v (record-count (bytes r) - next r)
+place-within r v is = within-part (bytes r) _ _ _ (turn r .loop-test .taken) (r .read-stations .ensures) v is
 
-found : (r : Stations) (v : Read) → r .read-part .result ≡ v
+found : (r : Stations) (v : Read) → r .read-stations .result ≡ v
     → shape-of (kinds (bytes r)) ≡ onward (next r) (shaped v (record-count (bytes r) - next r))
 found r v is =
-    let read = r .read-part .ensures ∙ ap (λ (p : Part). reading p [] (kinds (from (bytes r) (next r)))) (r .before .opened .ensures) in
-    initial-station (bytes r) _ (turn r .loop-test .taken) (turn r .before .loop .inv .1) (r .before .before .before .if1 .taken) _ read v is
+    initial-station (bytes r) _ (turn r .loop-test .taken) (turn r .before .loop .inv .1) (r .before .before .if1 .taken) _ (r .read-stations .ensures) v is
 
 loop-holds : tie.Need-loop-holds Inv-loop μ-loop
 loop-holds c = (omega arith, initial-start _)
@@ -61,37 +58,34 @@ shared-slice-read-kind c = search needs
 add-next : tie.Need-add-next Inv-loop μ-loop
 add-next c = search needs
 
-mul-read-part : tie.Need-mul-read-part Inv-loop μ-loop
-mul-read-part c = search needs
+mul-read-stations : tie.Need-mul-read-stations Inv-loop μ-loop
+mul-read-stations c = search needs
 
-sub-read-part : tie.Need-sub-read-part Inv-loop μ-loop
-sub-read-part c = search needs
+sub-read-stations : tie.Need-sub-read-stations Inv-loop μ-loop
+sub-read-stations c = search needs
 
-part-read-part-start : tie.Need-part-read-part-start Inv-loop μ-loop
-part-read-part-start c = search needs
+part-read-stations-start : tie.Need-part-read-stations-start Inv-loop μ-loop
+part-read-stations-start c = search needs
 
-part-read-part-end : tie.Need-part-read-part-end Inv-loop μ-loop
-part-read-part-end c = search needs
+part-read-stations-end : tie.Need-part-read-stations-end Inv-loop μ-loop
+part-read-stations-end c = search needs
 
-opened-requires : tie.Need-opened-requires Inv-loop μ-loop
-opened-requires c κs = search needs
-
-read-part-requires : tie.Need-read-part-requires Inv-loop μ-loop
-read-part-requires c κs = search needs
+read-stations-requires : tie.Need-read-stations-requires Inv-loop μ-loop
+read-stations-requires c κs = search needs
 
 enum-known-place : tie.Need-enum-known-place Inv-loop μ-loop
 enum-known-place c = search needs
 
-add-t22 : tie.Need-add-t22 Inv-loop μ-loop
-add-t22 c =
+add-t21 : tie.Need-add-t21 Inv-loop μ-loop
+add-t21 c =
     let h = place-within (c .before .before .before) _ (c .before .place .given .1) in
     omega arith
 
 enum-known-place-2 : tie.Need-enum-known-place-2 Inv-loop μ-loop
 enum-known-place-2 c = search needs
 
-add-t23 : tie.Need-add-t23 Inv-loop μ-loop
-add-t23 c =
+add-t22 : tie.Need-add-t22 Inv-loop μ-loop
+add-t22 c =
     let h = place-within (c .before .before .before) _ (c .before .place2 .given .1) in
     omega arith
 
@@ -143,16 +137,15 @@ read-file-spec =
     mul-kind
     shared-slice-read-kind
     add-next
-    mul-read-part
-    sub-read-part
-    part-read-part-start
-    part-read-part-end
-    opened-requires
-    read-part-requires
+    mul-read-stations
+    sub-read-stations
+    part-read-stations-start
+    part-read-stations-end
+    read-stations-requires
     enum-known-place
-    add-t22
+    add-t21
     enum-known-place-2
-    add-t23
+    add-t22
     enum-known-finished
     returns
     returns-2

@@ -1,0 +1,744 @@
+/*
+ * Times the panel's library against the independent program, on the same inputs and in one run, and prints three tables:
+ * the time of each call and the ratio of the two, the deepest stack of each of the library's calls, and how the
+ * library's time grows where an input doubles. It ends with which of the aims are met, and with status 0 whether or not
+ * they are; with status 1 where an answer is not the expected one or differs between the two, which is timing nothing.
+ *
+ *   bench
+ */
+#define _GNU_SOURCE
+#include "press.h"
+#include "../panel/press.h"
+
+#include <stdio.h>
+#include <stdlib.h>
+#include <string.h>
+#include <time.h>
+#include <ucontext.h>
+
+/* The aims. */
+static const double most_ratio = 1.2, most_growth = 2.3;
+enum { MOST_STACK = 65536 };
+
+/* The best of so many rounds is taken; a round of either side lasts at least so many nanoseconds. */
+enum { ROUNDS = 15, ROUND_NS = 10000000 };
+
+/* Answers kept in one stretch of time, to be compared after it. */
+enum { STRETCH = 32 };
+
+enum { STACK_BYTES = 1 << 20, PAINT = 0xA5, MOST_RESET = 3 };
+
+/* ---- inputs */
+
+enum call { CHECK, BUILD, START, STEP, ADVANCE, RUN, UNDO, LIGHTS, CALLS };
+
+static const char *const call_names[CALLS] = {"check", "build", "start", "step", "advance", "run", "undo", "lights"};
+
+/* What a call is given. The log is the one of a run that stands; step and run write to copies of it. */
+struct input {
+    uint8_t file[PRESS_FILE_BYTES];
+    size_t file_len;
+    uint8_t list[PRESS_LIST_BYTES];
+    size_t list_len;
+    uint8_t log[PRESS_LOG_BYTES];
+    uint8_t picks[2 * IND_MAX_STEPS];
+    size_t picks_len;
+    struct ind_state state;
+    press_state our_state;
+};
+
+/* The same state as the library has it. */
+static press_state same_as(struct ind_state t)
+{
+    press_state s;
+    memset(&s, 0, sizeof s);
+    memcpy(s.vars, t.var, sizeof s.vars);
+    memcpy(s.positions, t.pos, sizeof s.positions);
+    memcpy(s.priorities, t.pri, sizeof s.priorities);
+    s.n = t.n;
+    s.b = t.b;
+    s.m = t.m;
+    return s;
+}
+
+static struct input *new_input(void)
+{
+    struct input *in = calloc(1, sizeof *in);
+    if (!in) {
+        fprintf(stderr, "bench: no memory\n");
+        exit(2);
+    }
+    return in;
+}
+
+/* A record at the end of the file. */
+static void add(struct input *in, uint8_t kind, uint8_t a, uint8_t b, uint8_t op, uint32_t k)
+{
+    const uint8_t record[8] = {kind, a, b, op, k & 255, k >> 8 & 255, k >> 16 & 255, k >> 24};
+    memcpy(in->file + in->file_len, record, sizeof record);
+    in->file_len += sizeof record;
+}
+
+/* The i-th of many plain statements: SKIP, and SET with each op in turn. */
+static void add_plain(struct input *in, size_t i)
+{
+    const uint8_t a = i % 31, b = i * 7 % 32, op = i % 7;
+    if (op == 6)
+        add(in, IND_SKIP, 0, 0, 0, 0);
+    else
+        add(in, IND_SET, a, op == 0 ? 0 : b, op, op == 1 ? 0 : op < 4 ? (uint32_t)i * 70001 : i * 5 % 32);
+}
+
+/* A file of so many records: eight stations of plain statements. */
+static struct input *flat_file(size_t records)
+{
+    struct input *in = new_input();
+    for (size_t i = 0; i < records; i++) {
+        if (i % (records / 8) == 0)
+            add(in, IND_STATION, 0, 0, 0, 0);
+        else
+            add_plain(in, i);
+    }
+    return in;
+}
+
+/* The records of a nest so deep: WHILE and IF by turns, round a SKIP; the second branch of an IF is a SKIP. */
+static size_t nest_records(size_t depth)
+{
+    return 1 + 2 * (depth - depth / 2) + 4 * (depth / 2);
+}
+
+static void add_nest(struct input *in, size_t depth)
+{
+    if (depth == 0) {
+        add(in, IND_SKIP, 0, 0, 0, 0);
+    } else if (depth % 2 == 1) {
+        add(in, IND_WHILE, 0, depth % 32, depth % 4, 1000);
+        add_nest(in, depth - 1);
+        add(in, IND_OD, 0, 0, 0, 0);
+    } else {
+        add(in, IND_IF, 0, depth % 32, 4 + depth % 4, 31);
+        add_nest(in, depth - 1);
+        add(in, IND_ELSE, 0, 0, 0, 0);
+        add(in, IND_SKIP, 0, 0, 0, 0);
+        add(in, IND_FI, 0, 0, 0, 0);
+    }
+}
+
+/* A file of so many records: eight stations of nests sixteen deep, and less deep where the room ends. */
+static struct input *nested_file(size_t records)
+{
+    struct input *in = new_input();
+    for (size_t j = 1; j <= 8; j++) {
+        add(in, IND_STATION, 0, 0, 0, 0);
+        for (size_t left; (left = j * records / 8 - in->file_len / 8) > 0;) {
+            size_t depth = 16;
+            while (nest_records(depth) > left)
+                depth--;
+            add_nest(in, depth);
+        }
+    }
+    return in;
+}
+
+/* A file of so many records: a station, and in it so many WHILEs, each in the one before, round a SKIP, and closed. */
+static struct input *deep_file(size_t records)
+{
+    struct input *in = new_input();
+    add(in, IND_STATION, 0, 0, 0, 0);
+    for (size_t i = 1; i < records / 2; i++)
+        add(in, IND_WHILE, 0, 0, 0, 0);
+    add(in, IND_SKIP, 0, 0, 0, 0);
+    for (size_t i = 1; i < records / 2; i++)
+        add(in, IND_OD, 0, 0, 0, 0);
+    return in;
+}
+
+/* A file of so many records: a station, and in it records of one kind that each open a part and none closes. */
+static struct input *open_file(size_t records, uint8_t kind)
+{
+    struct input *in = new_input();
+    add(in, IND_STATION, 0, 0, 0, 0);
+    for (size_t i = 1; i < records; i++)
+        add(in, kind, 0, 0, 0, 0);
+    return in;
+}
+
+/* Builds the list of the file. */
+static void build_list(struct input *in)
+{
+    const struct ind_build_answer built = ind_build(in->file, in->file_len, in->list, sizeof in->list);
+    if (built.number != 0) {
+        fprintf(stderr, "bench: a file to be timed is refused: %d at %d\n", built.number, built.place);
+        exit(1);
+    }
+    in->list_len = (size_t)16 * built.count;
+}
+
+/* Starts a run of the list, with the largest resets. */
+static void start_run(struct input *in)
+{
+    const uint8_t resets[8] = {3, 3, 3, 3, 3, 3, 3, 3};
+    size_t n = 0;
+    while (in->list[16 * n] == IND_INIT)
+        n++;
+    const struct ind_state_answer started =
+        ind_start(in->list, in->list_len, MOST_RESET, resets, n, in->log, sizeof in->log);
+    if (started.number != 0) {
+        fprintf(stderr, "bench: a list to be timed is refused: %d\n", started.number);
+        exit(1);
+    }
+    in->state = started.state;
+    in->our_state = same_as(in->state);
+}
+
+/* The two stations of "Dryer", started. */
+static struct input *dryer(void)
+{
+    struct input *in = new_input();
+    add(in, IND_STATION, 0, 0, 0, 0);
+    add(in, IND_SET, 0, 0, 0, 1);
+    add(in, IND_STATION, 0, 0, 0, 0);
+    add(in, IND_AWAIT, 0, 0, 0, 1);
+    add(in, IND_SET, 0, 0, 2, 1);
+    add(in, IND_END, 0, 0, 0, 0);
+    build_list(in);
+    start_run(in);
+    return in;
+}
+
+/* Sets a list record's first bytes, byte 9 and its targets. */
+static void relay(uint8_t *r, const uint8_t own[8], uint8_t inside, size_t t1, size_t t2)
+{
+    memcpy(r, own, 8);
+    r[9] = inside;
+    r[10] = t1 & 255;
+    r[11] = t1 >> 8;
+    r[12] = t2 & 255;
+    r[13] = t2 >> 8;
+}
+
+/*
+ * A list of so many records that never ends, started: eight stations whose steps are of every kind by turns and whose
+ * last leads back to the first.
+ */
+static struct input *long_list(size_t records)
+{
+    static const uint8_t own[8][8] = {
+        {IND_SET, 1, 2, 2, 17, 1},      {IND_IF, 0, 1, 2, 0, 0, 0, 128}, {IND_SET, 2, 1, 4, 3},
+        {IND_AWAIT, 0, 4, 3},           {IND_SET, 4, 4, 3, 9},           {IND_WHILE, 0, 5, 5, 6},
+        {IND_SET, 3, 0, 0, 1, 2, 3, 4}, {IND_SKIP},
+    };
+    struct input *in = new_input();
+    in->list_len = 16 * records;
+    for (size_t j = 0, first = 8; j < 8; j++) {
+        const size_t stop = 8 + (records - 8) * (j + 1) / 8 - 1;
+        uint8_t *init = in->list + 16 * j;
+        init[0] = IND_INIT;
+        init[1] = init[8] = j;
+        init[10] = first & 255;
+        init[11] = first >> 8;
+        for (size_t p = first; p < stop; p++) {
+            const size_t i = p - first < (stop - first) / 8 * 8 ? (p - first) % 8 : 7;
+            const size_t next = p + 1 < stop ? p + 1 : first;
+            uint8_t *r = in->list + 16 * p;
+            r[8] = j;
+            relay(r, own[i], i == 4, i == 4 ? 0 : next, i == 3 ? next + 1 : i == 1 || i == 5 ? next : 0);
+        }
+        in->list[16 * stop] = IND_STOP;
+        in->list[16 * stop + 8] = j;
+        first = stop + 1;
+    }
+    start_run(in);
+    return in;
+}
+
+/* An AWAIT of v31 at least k, with a body of so many list records, at least 8: SETs, SKIPs and IFs. */
+static void add_await(struct input *in, size_t body, uint32_t k)
+{
+    add(in, IND_AWAIT, 0, 31, 3, k);
+    for (size_t i = 0; i < body;) {
+        if (i % 8 == 7 && i + 3 <= body) {
+            add(in, IND_IF, 0, i % 32, 2, 1u << 31);
+            add_plain(in, i + 1);
+            add(in, IND_ELSE, 0, 0, 0, 0);
+            add_plain(in, i + 2);
+            add(in, IND_FI, 0, 0, 0, 0);
+            i += 3;
+        } else {
+            add_plain(in, i++);
+        }
+    }
+    add(in, IND_END, 0, 0, 0, 0);
+}
+
+/* Eight stations of one AWAIT, with a body of so many list records, started: all wait where k is 1, none where it is 0. */
+static struct input *await_list(size_t body, uint32_t k)
+{
+    struct input *in = new_input();
+    for (size_t j = 0; j < 8; j++) {
+        add(in, IND_STATION, 0, 0, 0, 0);
+        add_await(in, body, k);
+    }
+    build_list(in);
+    start_run(in);
+    return in;
+}
+
+/* The same where none waits and each AWAIT leads back to itself. */
+static struct input *await_loops(size_t body)
+{
+    struct input *in = await_list(body, 0);
+    for (size_t j = 0; j < 8; j++) {
+        const uint8_t *init = in->list + 16 * j;
+        memcpy(in->list + 16 * (size_t)(init[10] | init[11] << 8) + 12, init + 10, 2);
+    }
+    return in;
+}
+
+/* So many picks, each of a station in turn, found on a run of their own. */
+static struct input *with_picks(struct input *in, size_t picks)
+{
+    static uint8_t log[PRESS_LOG_BYTES];
+    struct ind_state state = in->state;
+    for (size_t i = 0; i < picks; i++) {
+        const uint8_t in_turn = ind_lights(in->list, in->list_len, state).in_turn;
+        uint8_t station = i * 5 % 8, reset = i * 7 % (MOST_RESET + 1);
+        while (in_turn != 0 && (in_turn >> station & 1) == 0)
+            station = (station + 1) % 8;
+        state = ind_step(in->list, in->list_len, state, log, sizeof log, station, reset).state;
+        in->picks[2 * i] = station;
+        in->picks[2 * i + 1] = reset;
+    }
+    in->picks_len = 2 * picks;
+    return in;
+}
+
+/* The same run with its picks taken. */
+static struct input *after_picks(const struct input *before)
+{
+    struct input *in = new_input();
+    *in = *before;
+    in->state =
+        ind_run(in->list, in->list_len, in->state, in->log, sizeof in->log, in->picks, in->picks_len, SIZE_MAX).state;
+    in->our_state = same_as(in->state);
+    return in;
+}
+
+/* ---- the calls */
+
+union our_answer {
+    press_checked checked;
+    press_built built;
+    press_started started;
+    press_stepped stepped;
+    press_ran ran;
+    press_undone undone;
+    press_lit lit;
+};
+
+union their_answer {
+    struct ind_check_answer checked;
+    struct ind_build_answer built;
+    struct ind_state_answer state;
+    struct ind_run_answer ran;
+    struct ind_lights_answer lit;
+};
+
+static const uint8_t resets[8] = {3, 3, 3, 3, 3, 3, 3, 3};
+
+/* What each side writes to. */
+static uint8_t our_list[PRESS_LIST_BYTES], their_list[PRESS_LIST_BYTES];
+static uint8_t our_log[PRESS_LOG_BYTES], their_log[PRESS_LOG_BYTES];
+
+typedef void our_call(const struct input *in, union our_answer *r);
+typedef void their_call(const struct input *in, union their_answer *r);
+
+static void our_check(const struct input *in, union our_answer *r)
+{
+    r->checked = press_check(in->file, in->file_len);
+}
+
+static void their_check(const struct input *in, union their_answer *r)
+{
+    r->checked = ind_check(in->file, in->file_len);
+}
+
+static void our_build(const struct input *in, union our_answer *r)
+{
+    r->built = press_build(in->file, in->file_len, our_list, sizeof our_list);
+}
+
+static void their_build(const struct input *in, union their_answer *r)
+{
+    r->built = ind_build(in->file, in->file_len, their_list, sizeof their_list);
+}
+
+static void our_start(const struct input *in, union our_answer *r)
+{
+    r->started = press_start(in->list, in->list_len, MOST_RESET, resets, in->state.n, our_log, sizeof our_log);
+}
+
+static void their_start(const struct input *in, union their_answer *r)
+{
+    r->state = ind_start(in->list, in->list_len, MOST_RESET, resets, in->state.n, their_log, sizeof their_log);
+}
+
+/* A step takes the first pick. */
+static void our_step(const struct input *in, union our_answer *r)
+{
+    r->stepped = press_step(in->our_state, in->list, in->list_len, our_log, sizeof our_log, in->picks[0], in->picks[1]);
+}
+
+static void their_step(const struct input *in, union their_answer *r)
+{
+    r->state = ind_step(in->list, in->list_len, in->state, their_log, sizeof their_log, in->picks[0], in->picks[1]);
+}
+
+/* The state lent is put back before each call. */
+static void our_advance(const struct input *in, union our_answer *r)
+{
+    r->stepped.state = in->our_state;
+    r->stepped.number = press_advance(&r->stepped.state, in->list, in->list_len, our_log, sizeof our_log, in->picks[0],
+                                      in->picks[1]);
+}
+
+static void our_run(const struct input *in, union our_answer *r)
+{
+    r->ran = press_run(in->our_state, in->list, in->list_len, our_log, sizeof our_log, in->picks, in->picks_len,
+                       SIZE_MAX);
+}
+
+static void their_run(const struct input *in, union their_answer *r)
+{
+    r->ran = ind_run(in->list, in->list_len, in->state, their_log, sizeof their_log, in->picks, in->picks_len, SIZE_MAX);
+}
+
+static void our_undo(const struct input *in, union our_answer *r)
+{
+    r->undone = press_undo(in->our_state, in->list, in->list_len, in->log, sizeof in->log);
+}
+
+static void their_undo(const struct input *in, union their_answer *r)
+{
+    r->state = ind_undo(in->list, in->list_len, in->state, in->log, sizeof in->log);
+}
+
+static void our_lights(const struct input *in, union our_answer *r)
+{
+    r->lit = press_lights(in->our_state, in->list, in->list_len);
+}
+
+static void their_lights(const struct input *in, union their_answer *r)
+{
+    r->lit = ind_lights(in->list, in->list_len, in->state);
+}
+
+static our_call *const our_calls[CALLS] = {our_check, our_build, our_start, our_step,
+                                           our_advance, our_run, our_undo, our_lights};
+static their_call *const their_calls[CALLS] = {their_check, their_build, their_start, their_step,
+                                               their_step, their_run, their_undo, their_lights};
+
+static int same_state(const press_state *s, const struct ind_state *t)
+{
+    return memcmp(s->vars, t->var, sizeof s->vars) == 0 && memcmp(s->positions, t->pos, sizeof s->positions) == 0
+        && memcmp(s->priorities, t->pri, sizeof s->priorities) == 0 && s->n == t->n && s->b == t->b && s->m == t->m;
+}
+
+/* Both answers to a call are the same and have the expected number. */
+static int right(enum call call, const union our_answer *r, const union their_answer *t, uint8_t number)
+{
+    switch (call) {
+    case CHECK:
+        return r->checked.number == number && t->checked.number == number && r->checked.place == t->checked.place;
+    case BUILD:
+        return r->built.number == number && t->built.number == number && r->built.place == t->built.place
+            && r->built.count == t->built.count;
+    case RUN:
+        return r->ran.number == number && t->ran.number == number && r->ran.steps == t->ran.steps
+            && same_state(&r->ran.state, &t->ran.state);
+    case LIGHTS:
+        return r->lit.number == number && t->lit.number == number && r->lit.ready == t->lit.ready
+            && r->lit.in_turn == t->lit.in_turn && r->lit.waiting == t->lit.waiting && r->lit.ended == t->lit.ended
+            && memcmp(r->lit.rows, t->lit.rows, sizeof r->lit.rows) == 0;
+    default: /* a start, a step and an undo answer alike */
+        return r->stepped.number == number && t->state.number == number && same_state(&r->stepped.state, &t->state.state);
+    }
+}
+
+/* Clears what build, start and run write to. */
+static void clear(enum call call, uint8_t *list, uint8_t *log)
+{
+    if (call == BUILD)
+        memset(list, PAINT, PRESS_LIST_BYTES);
+    if (call == START || call == RUN)
+        memset(log, PAINT, PRESS_LOG_BYTES);
+}
+
+/* Whether a call's buffers are cleared between repetitions: a step writes two bytes, and these calls more. */
+static int is_cleared(enum call call)
+{
+    return call == BUILD || call == START || call == RUN;
+}
+
+static const char *cleared(enum call call)
+{
+    if (is_cleared(call))
+        return "yes";
+    return call == STEP || call == ADVANCE ? "no" : "none";
+}
+
+/* ---- times */
+
+struct timing {
+    size_t repetitions;
+    double ours, theirs; /* nanoseconds a call */
+};
+
+static double now(void)
+{
+    struct timespec t;
+    clock_gettime(CLOCK_MONOTONIC, &t);
+    return 1e9 * (double)t.tv_sec + (double)t.tv_nsec;
+}
+
+static union our_answer our_answers[STRETCH];
+static union their_answer their_answers[STRETCH];
+
+/* Nanoseconds of so many repetitions, at most a stretch, of a call of the library's. */
+static double our_stretch(enum call call, const struct input *in, size_t repetitions)
+{
+    our_call *const made = our_calls[call];
+    clear(call, our_list, our_log);
+    const double began = now();
+    for (size_t i = 0; i < repetitions; i++)
+        made(in, &our_answers[i]);
+    return now() - began;
+}
+
+static double their_stretch(enum call call, const struct input *in, size_t repetitions)
+{
+    their_call *const made = their_calls[call];
+    clear(call, their_list, their_log);
+    const double began = now();
+    for (size_t i = 0; i < repetitions; i++)
+        made(in, &their_answers[i]);
+    return now() - began;
+}
+
+/* Ends the program unless each of the answers just timed is right and both sides wrote the same. */
+static void must_be_right(const char *name, enum call call, uint8_t number, size_t answers)
+{
+    int same = memcmp(our_list, their_list, sizeof our_list) == 0 && memcmp(our_log, their_log, sizeof our_log) == 0;
+    for (size_t i = 0; i < answers; i++)
+        same = same && right(call, &our_answers[i], &their_answers[i], number);
+    if (!same) {
+        printf("bench: %s, %s: the two differ, or do not answer %d\n", call_names[call], name, number);
+        exit(1);
+    }
+}
+
+/* One round: so many repetitions of each side by turns, a stretch at a time, and nanoseconds a call. */
+static struct timing one_round(const char *name, enum call call, const struct input *in, uint8_t number, size_t repetitions)
+{
+    struct timing t = {repetitions, 0, 0};
+    const size_t most = is_cleared(call) ? 1 : STRETCH;
+    for (size_t done = 0, stretch; done < repetitions; done += stretch) {
+        stretch = repetitions - done < most ? repetitions - done : most;
+        t.ours += our_stretch(call, in, stretch);
+        t.theirs += their_stretch(call, in, stretch);
+        must_be_right(name, call, number, stretch);
+    }
+    t.ours /= (double)repetitions;
+    t.theirs /= (double)repetitions;
+    return t;
+}
+
+/* The best of the rounds, each side's own; the repetitions double until a round of either lasts long enough. */
+static struct timing timed(const char *name, enum call call, const struct input *in, uint8_t number)
+{
+    size_t repetitions = 1;
+    for (enum call c = CHECK; c < CALLS; c++) {
+        clear(c, our_list, our_log);
+        clear(c, their_list, their_log);
+    }
+    struct timing best = one_round(name, call, in, number, repetitions);
+    while ((double)repetitions * (best.ours < best.theirs ? best.ours : best.theirs) < ROUND_NS)
+        best = one_round(name, call, in, number, repetitions *= 2);
+    for (int i = 1; i < ROUNDS; i++) {
+        const struct timing t = one_round(name, call, in, number, repetitions);
+        best.ours = t.ours < best.ours ? t.ours : best.ours;
+        best.theirs = t.theirs < best.theirs ? t.theirs : best.theirs;
+    }
+    return best;
+}
+
+/* ---- stacks */
+
+static uint8_t stack[STACK_BYTES];
+static ucontext_t here, there;
+static struct {
+    our_call *made;
+    const struct input *in;
+    uint8_t *top;
+} deep;
+
+/* Makes the call; all that it uses lies below this frame. */
+static void on_stack(void)
+{
+    static union our_answer r;
+    deep.top = __builtin_frame_address(0);
+    deep.made(deep.in, &r);
+}
+
+/* The bytes of stack that a call overwrites, with its arguments and its return address: the stack is painted before. */
+static size_t stack_of(enum call call, const struct input *in)
+{
+    size_t low = 0;
+    memset(stack, PAINT, sizeof stack);
+    deep.made = our_calls[call];
+    deep.in = in;
+    getcontext(&there);
+    there.uc_stack.ss_sp = stack;
+    there.uc_stack.ss_size = sizeof stack;
+    there.uc_link = &here;
+    makecontext(&there, on_stack, 0);
+    swapcontext(&here, &there);
+    while (low < sizeof stack && stack[low] == PAINT)
+        low++;
+    return (size_t)(deep.top - (stack + low));
+}
+
+/* ---- the tables */
+
+/* What is timed: a call on an input and on one half as large, and the number that it answers. */
+struct subject {
+    enum call call;
+    const char *name;
+    uint8_t number;
+    const struct input *whole, *half;
+    const char *doubled; /* what is half as large */
+    struct timing timing;
+};
+
+enum { MOST_SUBJECTS = 32 };
+static struct subject subjects[MOST_SUBJECTS];
+static size_t subject_count;
+
+static void subject(enum call call, const char *name, uint8_t number, const struct input *whole,
+                    const struct input *half, const char *doubled)
+{
+    const struct subject s = {call, name, number, whole, half, doubled, {0, 0, 0}};
+    subjects[subject_count++] = s;
+}
+
+static void make_file_subjects(void)
+{
+    const struct input *flat = flat_file(1024), *nested = nested_file(1024), *deep511 = deep_file(1024);
+    const struct input *flat_half = flat_file(512), *nested_half = nested_file(512), *deep255 = deep_file(512);
+    const struct input *open = open_file(1024, IND_WHILE), *open_half = open_file(512, IND_WHILE);
+    for (enum call call = CHECK; call <= BUILD; call++) {
+        subject(call, "1,024 records, flat", 0, flat, flat_half, "records of the file");
+        subject(call, "1,024 records, 16 deep", 0, nested, nested_half, "records of the file");
+        subject(call, "1,024 records, 511 deep: DEPTH", IND_DEPTH, deep511, deep255, "records of the file");
+        subject(call, "1,024 records, 1,023 deep: SHAPE", IND_SHAPE, open, open_half, "records of the file");
+    }
+}
+
+static void make_run_subjects(void)
+{
+    const struct input *small = dryer(), *few = with_picks(long_list(516), 1);
+    const struct input *all = with_picks(long_list(IND_MAX_ITEMS), IND_MAX_STEPS);
+    const struct input *fewer_picks = with_picks(long_list(IND_MAX_ITEMS), IND_MAX_STEPS / 2);
+    const struct input *bodies = with_picks(await_loops(100), IND_MAX_STEPS);
+    const struct input *short_bodies = with_picks(await_loops(50), IND_MAX_STEPS);
+    subject(START, "list of 1,032 records", 0, all, few, "records of the list");
+    subject(STEP, "list of 7 records", 0, small, NULL, "");
+    subject(STEP, "list of 1,032 records", 0, all, few, "records of the list");
+    subject(ADVANCE, "list of 7 records", 0, small, NULL, "");
+    subject(ADVANCE, "list of 1,032 records", 0, all, few, "records of the list");
+    subject(RUN, "4,096 picks, list of 1,032 records", 0, all, fewer_picks, "picks");
+    subject(RUN, "4,096 picks, AWAITs of 100 records", 0, bodies, short_bodies, "records of a body");
+    subject(UNDO, "4,096 steps, list of 1,032 records", 0, after_picks(all), after_picks(fewer_picks), "standing steps");
+    subject(UNDO, "4,096 steps, AWAITs of 100 records", 0, after_picks(bodies), after_picks(short_bodies),
+            "records of a body");
+    subject(LIGHTS, "8 waiting at AWAITs of 100 records", 0, await_list(100, 1), await_list(50, 1), "records of a body");
+}
+
+/* The first table. Answers the worst ratio. */
+static double show_ratios(void)
+{
+    double worst = 0;
+    printf("Ratios: the best of %d rounds of each side, the two by turns. Cleared: whether buffers were cleared between\n"
+           "repetitions; none where the call writes to none.\n\n",
+           ROUNDS);
+    printf("%-8s %-36s %11s %7s %10s %10s %6s\n", "call", "on", "repetitions", "cleared", "ours ns", "theirs ns",
+           "ratio");
+    for (struct subject *s = subjects; s < subjects + subject_count; s++) {
+        s->timing = timed(s->name, s->call, s->whole, s->number);
+        const double ratio = s->timing.ours / s->timing.theirs;
+        printf("%-8s %-36s %11zu %7s %10.0f %10.0f %6.2f\n", call_names[s->call], s->name, s->timing.repetitions,
+               cleared(s->call), s->timing.ours, s->timing.theirs, ratio);
+        worst = ratio > worst ? ratio : worst;
+    }
+    return worst;
+}
+
+/* The second table: of each call the input that takes most stack. Answers the deepest. */
+static size_t show_stacks(void)
+{
+    size_t deepest = 0;
+    printf("\nStack: the deepest of each of our calls, with its arguments and its return address.\n\n");
+    printf("%-8s %-36s %11s\n", "call", "on", "bytes");
+    for (enum call call = CHECK; call < CALLS; call++) {
+        const struct subject *at = NULL;
+        size_t most = 0;
+        for (const struct subject *s = subjects; s < subjects + subject_count; s++) {
+            const size_t bytes = s->call == call ? stack_of(call, s->whole) : 0;
+            if (bytes > most) {
+                most = bytes;
+                at = s;
+            }
+        }
+        printf("%-8s %-36s %11zu\n", call_names[call], at ? at->name : "", most);
+        deepest = most > deepest ? most : deepest;
+    }
+    return deepest;
+}
+
+/* The third table. Answers the worst growth. */
+static double show_growths(void)
+{
+    double worst = 0;
+    printf("\nGrowth: our time on the whole input by our time on one with half of what the last column names.\n\n");
+    printf("%-8s %-36s %10s %10s %6s  %s\n", "call", "on", "half ns", "whole ns", "growth", "doubled");
+    for (const struct subject *s = subjects; s < subjects + subject_count; s++) {
+        if (!s->half)
+            continue;
+        const struct timing half = timed(s->name, s->call, s->half, s->number);
+        const double growth = s->timing.ours / half.ours;
+        printf("%-8s %-36s %10.0f %10.0f %6.2f  %s\n", call_names[s->call], s->name, half.ours, s->timing.ours, growth,
+               s->doubled);
+        worst = growth > worst ? growth : worst;
+    }
+    return worst;
+}
+
+static const char *met(int is_met)
+{
+    return is_met ? "met    " : "not met";
+}
+
+int main(void)
+{
+    setvbuf(stdout, NULL, _IOLBF, 0);
+    make_file_subjects();
+    make_run_subjects();
+    const double ratio = show_ratios();
+    const size_t deepest = show_stacks();
+    const double growth = show_growths();
+    printf("\n%s  no ratio above %.1f: the worst is %.2f\n", met(ratio <= most_ratio), most_ratio, ratio);
+    printf("%s  no call above %d bytes of stack: the deepest is %zu\n", met(deepest <= MOST_STACK), MOST_STACK, deepest);
+    printf("%s  growth linear, at most %.1f: the worst is %.2f\n", met(growth <= most_growth), most_growth, growth);
+    return 0;
+}
