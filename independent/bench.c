@@ -7,8 +7,7 @@
  *   bench
  */
 #define _GNU_SOURCE
-#include "press.h"
-#include "../panel/press.h"
+#include "both.h"
 
 #include <stdio.h>
 #include <stdlib.h>
@@ -46,20 +45,6 @@ struct input {
     struct ind_state state;
     press_state our_state;
 };
-
-/* The same state as the library has it. */
-static press_state same_as(struct ind_state t)
-{
-    press_state s;
-    memset(&s, 0, sizeof s);
-    memcpy(s.vars, t.var, sizeof s.vars);
-    memcpy(s.positions, t.pos, sizeof s.positions);
-    memcpy(s.priorities, t.pri, sizeof s.priorities);
-    s.n = t.n;
-    s.b = t.b;
-    s.m = t.m;
-    return s;
-}
 
 static struct input *new_input(void)
 {
@@ -189,7 +174,7 @@ static void start_run(struct input *in)
         exit(1);
     }
     in->state = started.state;
-    in->our_state = same_as(in->state);
+    in->our_state = same_as(&in->state);
 }
 
 /* The two stations of "Dryer", started. */
@@ -321,7 +306,7 @@ static struct input *after_picks(const struct input *before)
     *in = *before;
     in->state =
         ind_run(in->list, in->list_len, in->state, in->log, sizeof in->log, in->picks, in->picks_len, SIZE_MAX).state;
-    in->our_state = same_as(in->state);
+    in->our_state = same_as(&in->state);
     return in;
 }
 
@@ -438,12 +423,6 @@ static our_call *const our_calls[CALLS] = {our_check, our_build, our_start, our_
                                            our_advance, our_run, our_undo, our_lights};
 static their_call *const their_calls[CALLS] = {their_check, their_build, their_start, their_step,
                                                their_step, their_run, their_undo, their_lights};
-
-static int same_state(const press_state *s, const struct ind_state *t)
-{
-    return memcmp(s->vars, t->var, sizeof s->vars) == 0 && memcmp(s->positions, t->pos, sizeof s->positions) == 0
-        && memcmp(s->priorities, t->pri, sizeof s->priorities) == 0 && s->n == t->n && s->b == t->b && s->m == t->m;
-}
 
 /* Both answers to a call are the same and have the expected number. */
 static int right(enum call call, const union our_answer *r, const union their_answer *t, uint8_t number)

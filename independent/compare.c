@@ -5,8 +5,7 @@
  *
  *   compare FILE
  */
-#include "press.h"
-#include "../panel/press.h"
+#include "both.h"
 
 #include <stdio.h>
 #include <stdlib.h>
@@ -60,21 +59,7 @@ static struct ind_state their_state(const uint8_t *p)
 static press_state our_state(const uint8_t *p)
 {
     struct ind_state t = their_state(p);
-    press_state s;
-    memset(&s, 0, sizeof s);
-    memcpy(s.vars, t.var, sizeof s.vars);
-    memcpy(s.positions, t.pos, sizeof s.positions);
-    memcpy(s.priorities, t.pri, sizeof s.priorities);
-    s.n = t.n;
-    s.b = t.b;
-    s.m = t.m;
-    return s;
-}
-
-static int same_state(press_state s, struct ind_state t)
-{
-    return memcmp(s.vars, t.var, sizeof s.vars) == 0 && memcmp(s.positions, t.pos, sizeof s.positions) == 0
-        && memcmp(s.priorities, t.pri, sizeof s.priorities) == 0 && s.n == t.n && s.b == t.b && s.m == t.m;
+    return same_as(&t);
 }
 
 /* Both answers to a case are the same, and so are the buffers afterwards. */
@@ -104,7 +89,7 @@ static int agree(const struct call *c)
         press_started r = press_start(a[0].bytes, a[0].len, a[1].bytes[0], a[2].bytes, a[2].len, a[3].bytes, a[3].len);
         struct ind_state_answer t =
             ind_start(b[0].bytes, b[0].len, b[1].bytes[0], b[2].bytes, b[2].len, b[3].bytes, b[3].len);
-        same = r.number == t.number && same_state(r.state, t.state);
+        same = r.number == t.number && same_state(&r.state, &t.state);
         break;
     }
     case 4: {
@@ -117,7 +102,7 @@ static int agree(const struct call *c)
             press_advance(&lent, a[0].bytes, a[0].len, log.bytes, log.len, a[3].bytes[0], a[3].bytes[1]);
         struct ind_state_answer t = ind_step(b[0].bytes, b[0].len, their_state(b[1].bytes), b[2].bytes, b[2].len,
                                              b[3].bytes[0], b[3].bytes[1]);
-        same = r.number == t.number && same_state(r.state, t.state) && number == t.number && same_state(lent, t.state)
+        same = r.number == t.number && same_state(&r.state, &t.state) && number == t.number && same_state(&lent, &t.state)
             && memcmp(log.bytes, b[2].bytes, log.len) == 0;
         break;
     }
@@ -127,13 +112,13 @@ static int agree(const struct call *c)
                                 most);
         struct ind_run_answer t = ind_run(b[0].bytes, b[0].len, their_state(b[1].bytes), b[2].bytes, b[2].len,
                                           b[3].bytes, b[3].len, most);
-        same = r.number == t.number && same_state(r.state, t.state) && r.steps == t.steps;
+        same = r.number == t.number && same_state(&r.state, &t.state) && r.steps == t.steps;
         break;
     }
     case 6: {
         press_undone r = press_undo(our_state(a[1].bytes), a[0].bytes, a[0].len, a[2].bytes, a[2].len);
         struct ind_state_answer t = ind_undo(b[0].bytes, b[0].len, their_state(b[1].bytes), b[2].bytes, b[2].len);
-        same = r.number == t.number && same_state(r.state, t.state);
+        same = r.number == t.number && same_state(&r.state, &t.state);
         break;
     }
     case 7: {
