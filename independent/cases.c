@@ -6,9 +6,10 @@
  *                           ends with 1 where a number that the document
  *                           allows a call was never reached, or one that it
  *                           does not allow was
- *   cases answer            reads a stream and prints one line a case
- *   cases soak SEED ROUNDS  makes random cases, writes nothing, and prints
+ *   cases random SEED ROUNDS
+ *                           writes so many rounds of random cases alone, and
  *                           the table
+ *   cases answer            reads a stream and prints one line a case
  *
  * The stream has no header.  A case is one byte for the call (1 check,
  * 2 build, 3 start, 4 step, 5 run, 6 undo, 7 lights, 8 trace), then the call's
@@ -2159,13 +2160,16 @@ static int write_stream(uint64_t seed)
     return report(&w) != 0;
 }
 
-static int soak(uint64_t seed, unsigned long rounds)
+static int write_random(uint64_t seed, unsigned long rounds)
 {
     static struct writer w;
     struct rng g = { seed };
 
+    w.out = stdout;
     while (rounds-- > 0)
         random_round(&w, &g);
+    if (fflush(stdout) != 0)
+        die("cannot write");
     report(&w);
     return 0;
 }
@@ -2202,8 +2206,8 @@ int main(int argc, char **argv)
         return write_stream(strtoull(argv[2], NULL, 10));
     if (argc == 2 && strcmp(argv[1], "answer") == 0)
         return answer_stream();
-    if (argc == 4 && strcmp(argv[1], "soak") == 0)
-        return soak(strtoull(argv[2], NULL, 10), strtoul(argv[3], NULL, 10));
-    fprintf(stderr, "usage: cases write SEED | answer | soak SEED ROUNDS\n");
+    if (argc == 4 && strcmp(argv[1], "random") == 0)
+        return write_random(strtoull(argv[2], NULL, 10), strtoul(argv[3], NULL, 10));
+    fprintf(stderr, "usage: cases write SEED | random SEED ROUNDS | answer\n");
     return 2;
 }

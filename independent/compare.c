@@ -1,7 +1,8 @@
 /*
  * Compares the panel's library with the independent program, call by call: reads a stream of cases (see cases.c) and makes
  * each call with both, on buffers of their own; whole answers and whole buffers must be the same. On a difference it cuts
- * the case down, prints it and ends with status 1.
+ * the case down, prints it and ends with status 1. Trace cases are passed by: a trace is a program and no call of the
+ * library, and the conformance program has them.
  *
  *   compare FILE
  */

@@ -50,13 +50,16 @@ enum {
 
 /* ---- a written sequence and its list */
 
-/* 0 and place 0; or a refusal and the place of a record, counted from 0. */
+/*
+ * 0 and place 0; or a refusal and its place. PRESS_FIELD, PRESS_SHAPE and PRESS_DEPTH have the place of a record,
+ * counted from 0, an unfinished file (PRESS_SHAPE) the number of its records; PRESS_LENGTH and PRESS_COUNT have 0.
+ */
 typedef struct press_checked {
     uint8_t number;
     uint16_t place;
 } press_checked;
 
-/* 0, place 0 and the count of list records; or a refusal, its place (PRESS_ROOM: 0) and count 0. */
+/* 0, place 0 and the count of list records; or a refusal, its place (as above; PRESS_ROOM: 0) and count 0. */
 typedef struct press_built {
     uint8_t number;
     uint16_t place;
@@ -118,16 +121,17 @@ typedef struct press_undone {
 
 /*
  * Starts a run, with a reset for each station and b the largest reset from then on. It answers the state with no steps,
- * the initial part run and the priorities set to the resets, and writes a start record for each station to the front of
- * the log. Refused (PRESS_LIST, PRESS_RESET, PRESS_ROOM, in this order), it answers zeros and leaves the log as it was.
+ * the initial part run and the priorities set to the resets, and writes the start records to the front of the log, two
+ * bytes for each station, its number and its reset; the bytes after them stay. Refused (PRESS_LIST, PRESS_RESET,
+ * PRESS_ROOM, in this order), it answers zeros and leaves the log as it was.
  */
 press_started press_start(const uint8_t *list, size_t list_len, uint8_t b, const uint8_t *resets, size_t resets_len,
                           uint8_t *log, size_t log_len);
 
 /*
- * One step, by the pick of a station and its reset. It answers the state after the step and writes the pick to the log,
- * at byte 2 * (n + m) of the state given. Refused (7, 8, 9, 6, 10, 11, 12, 13, in this order), it answers the state
- * given and leaves the log as it was.
+ * One step, by the pick of a station and its reset. It answers the state after the step and writes the pick, its two
+ * bytes, to the log at byte 2 * (n + m) of the state given; the other bytes stay. Refused (7, 8, 9, 6, 10, 11, 12, 13,
+ * in this order), it answers the state given and leaves the log as it was.
  */
 press_stepped press_step(press_state state, const uint8_t *list, size_t list_len, uint8_t *log, size_t log_len,
                          uint8_t station, uint8_t reset);
