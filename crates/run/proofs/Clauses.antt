@@ -3,24 +3,17 @@ use Prim.Native.Nat.{ℕ, suc, _+_, _-_}
 use mathlib.Core.Path.{_≡_}
 use mathlib.Core.Bool.{_&&_}
 use mathlib.Core.List.{List}
-use native.Mathlib.Numerals.{add-one}
 use lib.Dec.{eqb, leb}
-use lib.IntN.{ℤ, pos, negℤ}
+use lib.IntN.{pos}
 use lib.Signed.{leZ}
-use Rattle.rules.specs.Words.{each, tally}
+use Rattle.rules.specs.Words.{each}
 use Rattle.rules.specs.Names.{max-stations, max-steps}
 use Rattle.rules.specs.List.{stations}
 use Rattle.rules.specs.State.{State, position, priority, few-low, empty-at, sound-state}
 use Rattle.laws.proofs.Places.{each-same}
 use Rattle.list.specs.Given.{later-after, is-at-from}
 use Rattle.list.proofs.Given.{later-counted, is-at-given}
-use Rattle.run.specs.Parts.{priority-in, few-low-in, empty-in}
-
--- the rule on k, at the count of those that are -k or lower
-pub few-low-counted :
-    (priorities : List ℤ) (n i : ℕ) {count : ℕ} → count ≡ tally (λ j. leZ (priority-in priorities j) (negℤ (pos (i + 1)))) n →
-    few-low-in priorities n (suc i) ≡ leb (count + (i + 1)) n
-few-low-counted priorities n i counted = rw (counted, add-one)
+use Rattle.stations.specs.Parts.{few-low-in, empty-in}
 
 -- the whole, at the number of stations and the place of the first later record
 pub sound-given :

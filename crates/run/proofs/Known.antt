@@ -14,7 +14,7 @@ use Rattle.rules.specs.State.{State, priority}
 use Rattle.rules.specs.Ready.{next-step, ended, waiting, ready, lowest}
 use Rattle.rules.specs.Step.{pick-tests}
 use Rattle.laws.proofs.Places.{each-same, getD-values}
-use Rattle.run.specs.Parts.{ready-at, yields-to}
+use Rattle.stations.specs.Parts.{ready-at, yields-to}
 
 module _ (list : List ℕ) (s : State) {all : List Bool} where
   pub readied : all ≡ values (λ j. ready-at (s .vars) (next-step list s j)) max-stations → all ≡ values (ready list s) max-stations

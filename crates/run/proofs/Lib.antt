@@ -1,5 +1,4 @@
 pub mod Signed
-pub mod Filled
 pub mod Clauses
 pub mod Changes
 pub mod Known

@@ -11,11 +11,6 @@ use lib.Signed.{leZ}
 use borrow.Author.Tests.{leb-false}
 use Rattle.rules.specs.Names.{max-stations}
 
--- the negation of a byte fits
-pub sfits-neg : (k : ℕ) → k ≤ 255 → SFits w16 (negℤ (pos k))
-sfits-neg zero within = record { sfits = lit< tt }
-sfits-neg (suc k) within = record { sfits = omega arith }
-
 -- a priority above -n, with n at most 8, can lose 1
 pub sfits-pred : (n : ℕ) (p : ℤ) → n ≤ max-stations → SFits w16 p → leZ p (negℤ (pos n)) ≡ false → SFits w16 (p -ℤ pos 1)
 sfits-pred n (pos zero) few fits above = rw -ℤ-one (record { sfits = lit< tt })

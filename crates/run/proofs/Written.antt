@@ -11,7 +11,7 @@ use Rattle.rules.specs.Words.{values, written}
 use Rattle.rules.specs.Records.{pick-at}
 use Rattle.rules.specs.Start.{start-records}
 use Rattle.laws.proofs.Places.{values-same}
-use Rattle.run.proofs.Filled.{values-getD}
+use Rattle.stations.proofs.Filled.{values-getD}
 
 -- a buffer that is long enough has the bytes set one by one
 written-sets : (log : List ℕ) (at : ℕ) (bytes : List ℕ) → at + length bytes ≤ length log → written log at bytes ≡ sets log at bytes

@@ -11,7 +11,7 @@ ghost use lib.Signed.{leZ};
 ghost use Rattle.rules.specs.Words.{changed};
 ghost use Rattle.rules.specs.Names.{max-stations};
 ghost use Rattle.rules.specs.Step.{charged};
-ghost use Rattle.run.specs.Parts.{priority-in};
+ghost use Rattle.stations.specs.Parts.{priority-in};
 
 // One station's priority after a step: the reset if it was picked, one less if it was ready, else the same.
 fn charged_one(p: i16, picked: bool, ready: bool, reset: u8) -> i16

@@ -1,6 +1,4 @@
 // A run: its state, and the calls that start it, step it, run it and take a step back, over any list, state and log whatever.
-ghost use mathlib.Core.Path.{_≡_};
-ghost use Rattle.run.specs.Parts.{position-in, priority-in};
 
 mod begin;
 mod charge;
@@ -11,9 +9,6 @@ mod step;
 mod undo;
 
 pub use begin::start;
-
-// Places for stations in a state.
-const MAX_STATIONS: usize = 8;
 
 // Standing steps, at most.
 const MAX_STEPS: u16 = 4096;
@@ -57,24 +52,4 @@ pub struct Ran {
 pub struct Undone {
     pub number: u8,
     pub state: State,
-}
-
-// Station j's position; 0 for a station that there is no place for.
-fn position(positions: [u16; 8], j: usize) -> usize
-    ensures { λ r. ⌜ r ≡ position-in positions j ⌝ }
-{
-    if j < MAX_STATIONS {
-        return positions[j] as usize;
-    }
-    0
-}
-
-// Station j's priority; 0 for a station that there is no place for.
-fn priority(priorities: [i16; 8], j: usize) -> i16
-    ensures { λ r. ⌜ r ≡ priority-in priorities j ⌝ }
-{
-    if j < MAX_STATIONS {
-        return priorities[j];
-    }
-    0
 }

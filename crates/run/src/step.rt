@@ -15,8 +15,6 @@ use crate::MAX_STEPS;
 use crate::State;
 use crate::Stepped;
 use crate::charge::charged;
-use crate::ready::lowest_of;
-use crate::ready::readiness;
 use record::Record;
 
 // What refuses the pick of a station of the list, of tests 11 to 13 in their order: it is not ready, it is not lowest, the reset is above
@@ -98,8 +96,8 @@ impl State {
         let at = station as usize;
         let positions = self.positions;
         let priorities = self.priorities;
-        let all = readiness(list, &self.vars, positions);
-        let lowest = lowest_of(all, priorities, self.n as usize, at);
+        let all = stations::readiness(list, &self.vars, positions);
+        let lowest = stations::lowest_of(all, priorities, self.n as usize, at);
         let number = pick_refusal(all[at], lowest, self.b < reset);
         if number != 0 {
             return Stepped {

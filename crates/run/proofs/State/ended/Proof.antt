@@ -2,7 +2,7 @@
 use mathlib.Core.Path.{ap, _∙_}
 use borrow.Author.Needs.{needs}
 use Rattle.rules.specs.Ready.{ended}
-use Rattle.run.specs.Parts.{ended-at}
+use Rattle.stations.specs.Parts.{ended-at}
 use Rattle.run.proofs.State.ended.Statement.{statement}
 use Rattle.run.proofs.State.ended.Tie as tie
 

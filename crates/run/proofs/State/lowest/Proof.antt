@@ -11,7 +11,7 @@ use borrow.Author.Tests.{not-true, not-false}
 use Rattle.rules.specs.State.{priority}
 use Rattle.rules.specs.Ready.{ready, lowest}
 use Rattle.laws.proofs.Places.{each-all, each-not}
-use Rattle.run.specs.Parts.{yields-to}
+use Rattle.stations.specs.Parts.{yields-to}
 use Rattle.run.specs.View.{as-state}
 use Rattle.run.proofs.State.lowest.Statement.{statement}
 use Rattle.run.proofs.State.lowest.Tie as tie

@@ -48,7 +48,7 @@ cast-lowest-of : tie.Need-cast-lowest-of
 cast-lowest-of c = search needs
 
 lowest-of-requires : tie.Need-lowest-of-requires
-lowest-of-requires c κs = few c
+lowest-of-requires c κs = search needs
 
 array-read-pick-refusal : tie.Need-array-read-pick-refusal
 array-read-pick-refusal c =

@@ -2,7 +2,7 @@
 use mathlib.Core.Path.{ap, _∙_}
 use borrow.Author.Needs.{needs}
 use Rattle.rules.specs.Ready.{ended, waiting, ready}
-use Rattle.run.specs.Parts.{ready-at}
+use Rattle.stations.specs.Parts.{ready-at}
 use Rattle.run.proofs.State.ready.Statement.{statement}
 use Rattle.run.proofs.State.ready.Tie as tie
 

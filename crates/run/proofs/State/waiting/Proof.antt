@@ -2,7 +2,7 @@
 use mathlib.Core.Path.{ap, _∙_}
 use borrow.Author.Needs.{needs}
 use Rattle.rules.specs.Ready.{waiting}
-use Rattle.run.specs.Parts.{waiting-at}
+use Rattle.stations.specs.Parts.{waiting-at}
 use Rattle.run.proofs.State.waiting.Statement.{statement}
 use Rattle.run.proofs.State.waiting.Tie as tie
 

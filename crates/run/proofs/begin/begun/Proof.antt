@@ -8,7 +8,7 @@ use Rattle.rules.specs.List.{initials}
 use Rattle.rules.specs.Start.{started}
 use Rattle.list.proofs.Given.{later-counted}
 use Rattle.fair.proofs.Meaning.{sound-list-means}
-use Rattle.run.proofs.Filled.{map-values}
+use Rattle.stations.proofs.Filled.{map-values}
 use Rattle.run.proofs.begin.begun.Statement.{statement}
 use Rattle.run.proofs.begin.begun.Tie as tie
 

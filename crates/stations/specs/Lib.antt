@@ -1,0 +1,2 @@
+-- What is asked of parts of a state.
+pub mod Parts
