@@ -45,13 +45,16 @@ fn words(bytes: &[u8; 164]) -> [u32; 32] {
 fn halves(bytes: &[u8; 164], from: usize) -> [u16; 8]
     requires { ⌜ from + 16 ≤ 164 ⌝ }
 {
-    let mut halves = [0u16; 8];
-    let mut i: usize = 0;
-    while i < 8 {
-        halves[i] = half_at(bytes, from + 2 * i);
-        i += 1;
-    }
-    halves
+    [
+        half_at(bytes, from),
+        half_at(bytes, from + 2),
+        half_at(bytes, from + 4),
+        half_at(bytes, from + 6),
+        half_at(bytes, from + 8),
+        half_at(bytes, from + 10),
+        half_at(bytes, from + 12),
+        half_at(bytes, from + 14),
+    ]
 }
 
 // The half at an offset.
@@ -73,14 +76,11 @@ fn after_words(h: u32, words: [u32; 32]) -> u32 {
 }
 
 // H after eight halves.
-fn after_halves(h: u32, halves: [u16; 8]) -> u32 {
-    let mut sum = h;
-    let mut i: usize = 0;
-    while i < 8 {
-        sum = hash::after_half(sum, halves[i]);
-        i += 1;
-    }
-    sum
+fn after_halves(h: u32, x: [u16; 8]) -> u32 {
+    let two = hash::after_half(hash::after_half(h, x[0]), x[1]);
+    let four = hash::after_half(hash::after_half(two, x[2]), x[3]);
+    let six = hash::after_half(hash::after_half(four, x[4]), x[5]);
+    hash::after_half(hash::after_half(six, x[6]), x[7])
 }
 
 // The number that a half's bits are in two's complement.
