@@ -1,14 +1,17 @@
 -- `run::State::undo_refusal` meets its contract: the first test that refuses decides.
 -- Assumes nothing.
-use mathlib.Core.Path.{_≡_, sym, _∙_}
-use mathlib.Core.Bool.{true}
+use mathlib.Core.Path.{_≡_, refl, sym, _∙_}
+use mathlib.Core.Bool.{Bool, true, false, not}
+use mathlib.Core.List.{[], _∷_}
 use borrow.Author.Needs.{needs}
 use borrow.Author.Tests.{eq-eqb, ne-eqb, lt-ltb, le-ltb, not-true, not-false}
-use Rattle.rules.specs.Words.{judge}
+use Rattle.rules.specs.Words.{if_then_else_, judge, refusal, _refuses_at_}
+use Rattle.rules.specs.Names.{LOG}
 use Rattle.rules.specs.List.{sound-list}
 use Rattle.rules.specs.State.{sound-state}
 use Rattle.rules.specs.Undo.{starts-right}
 use Rattle.fair.proofs.Meaning.{sound-means}
+use Rattle.run.specs.Picked.{before-replay}
 use Rattle.run.specs.View.{as-state}
 use Rattle.run.proofs.Replays.{starts-counted}
 use Rattle.run.proofs.State.undo_refusal.Statement.{statement}
@@ -28,6 +31,30 @@ tested : (c : tie.After-starts-right) → let a = c .before .before .before .bef
 tested c =
     let sound = c .before .before .before .before .before .before in
     starts-counted _ _ _ _ (sound-means _ _ .0 (stated sound) .of-list) ∙ sym (c .starts-right .ensures)
+
+-- a test of the start records alone
+by-starts : (right : Bool) → (if right then 0 else LOG) ≡ refusal ((not right refuses LOG at 0) ∷ [])
+unfolding judge
+by-starts true = refl
+by-starts false = refl
+
+-- where nothing refuses before them, the start records decide
+decided : (c : tie.After-starts-right) (right : Bool) → c .starts-right .result ≡ right
+    → let a = c .before .before .before .before .before .before .before .before .before .before .before .before .args in
+    (if right then 0 else LOG) ≡ refusal (before-replay (a .list .now) (as-state (a .self)) (a .log .now))
+unfolding judge
+decided c right is =
+    let roomy = c .before in
+    let some = roomy .before .before .before in
+    let sound = some .before .before in
+    rw (
+      listed (sound .before .before),
+      stated sound,
+      ne-eqb _ _ (some .if3 .left),
+      le-ltb _ _ (roomy .if4 .left),
+      tested c ∙ is,
+    )
+    (by-starts right)
 
 sound-requires : tie.Need-sound-requires
 sound-requires c κs = search needs
@@ -73,32 +100,10 @@ starts-right-requires : tie.Need-starts-right-requires
 starts-right-requires c κs = search needs
 
 returns-5 : tie.Need-returns-5
-unfolding judge
-returns-5 c =
-    let roomy = c .before .before in
-    let some = roomy .before .before .before in
-    let sound = some .before .before in
-    rw (
-      listed (sound .before .before),
-      stated sound,
-      ne-eqb _ _ (some .if3 .left),
-      le-ltb _ _ (roomy .if4 .left),
-      tested (c .before) ∙ not-true _ (c .if5 .taken),
-    )
+returns-5 c = decided (c .before) false (not-true _ (c .if5 .taken))
 
 returns-6 : tie.Need-returns-6
-unfolding judge
-returns-6 c =
-    let roomy = c .before .before in
-    let some = roomy .before .before .before in
-    let sound = some .before .before in
-    rw (
-      listed (sound .before .before),
-      stated sound,
-      ne-eqb _ _ (some .if3 .left),
-      le-ltb _ _ (roomy .if4 .left),
-      tested (c .before) ∙ not-false _ (c .if5 .left),
-    )
+returns-6 c = decided (c .before) true (not-false _ (c .if5 .left))
 
 pub undo-refusal-spec : {M : Type 1} → statement M
 undo-refusal-spec =
