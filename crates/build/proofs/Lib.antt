@@ -9,5 +9,4 @@ pub mod Depth
 pub mod Counts
 pub mod Whole
 pub mod Answer
-pub mod Frauds
 pub mod Only

@@ -4,10 +4,10 @@ use mathlib.Core.List.{List}
 use Prim.Native.Nat.{ℕ}
 use Rattle.rules.specs.Build as rules
 use Rattle.build.specs.declared.Built.{Built}
-use Rattle.build.specs.View.{as-built}
+use Rattle.build.specs.Promises.{BuildPromise}
 
-pub build-only : (file buffer : List ℕ) (r s : Built) (after later : List ℕ) → as-built r after ≡ rules.build file buffer
-    → as-built s later ≡ rules.build file buffer → (r ≡ s) × (after ≡ later)
+pub build-only : (file buffer : List ℕ) (r s : Built) (after later : List ℕ) → BuildPromise file buffer r after
+    → BuildPromise file buffer s later → (r ≡ s) × (after ≡ later)
 build-only file buffer r s after later e f =
     let g = e ∙ sym f in
     let n = ap (λ (b : rules.Built). b .number) g in

@@ -1,7 +1,5 @@
 // Building a list from a written sequence: check's refusals first, then ROOM. A refusal leaves the lent buffer as it was.
-ghost use mathlib.Core.Path.{_≡_};
-ghost use Rattle.rules.specs.Build.{build as buildOf};
-ghost use Rattle.build.specs.View.{as-built};
+ghost use Rattle.build.specs.Promises.{BuildPromise};
 use record::Record;
 
 // What building answers: 0 or the number of the refusal, the place of a record, and the count of list records, 0 where it refuses.
@@ -14,7 +12,7 @@ pub struct Built {
 
 // Builds the list of a file into the lent buffer, whose bytes past the list stay.
 pub fn build(file: &[u8], list: &mut [u8]) -> Built
-    ensures { λ r. ⌜ as-built r (now (list .exit)) ≡ buildOf (now (file .entry)) (now (list .entry)) ⌝ }
+    ensures { λ r. ⌜ BuildPromise (now (file .entry)) (now (list .entry)) r (now (list .exit)) ⌝ }
 {
     let checked = sequence::check(file);
     if checked.number != 0 {

@@ -1,27 +1,58 @@
--- Wrong programs that the promises of the run calls shut out, each by a witness on "Dryer": one that refuses always, one with a constant
--- answer, one that writes nothing, and one that makes the first step truly and afterwards only advances m. Assumes nothing.
+-- The frauds, each against what calls that meet the demands answer on "Dryer", or on a file of one or two SKIPs. Assumes nothing.
 use mathlib.Core.Path.{_≡_, refl, sym, ap, _∙_}
-use mathlib.Core.Bool.{false}
+use mathlib.Core.Logic.{_≢_}
+use mathlib.Core.Bool.{true, false, false≢true, and-false}
 use mathlib.Core.List.{List, [], _∷_, _++_}
-use Prim.Native.Nat.{ℕ, _+_, _≤_}
+use mathlib.Core.Option.{none, some}
+use Prim.Native.Nat.{ℕ, _+_, _<_}
 use native.Mathlib.Omega.{arith}
+use borrow.Author.Tests.{eqb-true, eqb-false}
 use lib.Dec.{eqb}
 use lib.ListN.{getD, replicate}
-use lib.IntN.{ℤ, pos, negsuc, pos-ne-negsuc}
-use Rattle.rules.specs.Words.{each, first, tally, mask, values, changed, written, judge}
-use Rattle.rules.specs.Records.{Pick, record-from, list-record-at}
+use lib.IntN.{ℤ, pos}
+use Rattle.rules.specs.Words.{each, first, tally, mask, values, changed, written, Answer, judge}
+use Rattle.rules.specs.Names.{STATION, SKIP}
+use Rattle.rules.specs.Records.{Pick, pick-at, record-from, list-record-at}
 use Rattle.rules.specs.Fields.{rules-of, fields-right}
+use Rattle.rules.specs.Shape.{stride, wrong-at, walked, well-shaped, too-deep-at}
+use Rattle.rules.specs.Check.{wrong-length, field-place, station-count, depth-place, check}
+use Rattle.rules.specs.Trees.{parts-of, stations-of, leading-sets, initial-part, size}
+use Rattle.rules.specs.Build.{laid, inits, bodies, list-of, bytes-of, Built, build}
 use Rattle.rules.specs.List.{stations, initials, is-at, init-right, initial-right, outside-targets, inside-targets, later-right, sound-list}
-use Rattle.rules.specs.State.{State, priority, few-low, empty-at, sound-state}
+use Rattle.rules.specs.State.{State, zeros, priority, few-low, empty-at, sound-state}
 use Rattle.rules.specs.Values.{set-value, holds}
 use Rattle.rules.specs.Start.{initial-run, started, start-records, Started, start}
 use Rattle.rules.specs.Ready.{ended, waiting, ready, lowest}
-use Rattle.rules.specs.Step.{charged, body-run, step-vars, step-position, charge, stepped, Stepped, step}
+use Rattle.rules.specs.Step.{body-run, step-vars, step-position, charge, stepped, Stepped, step}
 use Rattle.rules.specs.Run.{Ran, steps-from, run}
-use Rattle.rules.specs.Undo.{replay, starts-right, replayed, Undone, undo}
+use Rattle.rules.specs.Undo.{Undone}
 use Rattle.rules.specs.Lights.{reads, writes, led-to, body, some-of, touches, Lights, lights}
-use Rattle.fair.specs.Fair.{Sch, Update}
-use Rattle.fair.proofs.Relation.{step-fair}
+use Rattle.rules.specs.Calls.{Seven}
+use Rattle.rules.specs.History.{Call, START, STEP, UNDO, Steps, begun, taken, Now, stepped-on, called, calls-from, history}
+use Rattle.laws.proofs.Choice.{by-test}
+use Rattle.lit.proofs.Shown.{lights-show}
+use Rattle.lit.proofs.Only.{shows-only}
+use Rattle.fair.specs.Sound.{Held}
+use Rattle.demands.specs.Order.{before-steps}
+use Rattle.demands.specs.Runs.{Singles, one-more}
+use Rattle.demands.specs.Lights.{Lit}
+use Rattle.demands.specs.Demands.{Demand2}
+use Rattle.demands.specs.Frauds.{ByDemand2, WithTests}
+use Rattle.demands.proofs.Unrefused.{start-same, step-same, singles-ruled, run-same}
+use Rattle.demands.proofs.Only.{no-other}
+
+-- records with nothing but their kinds
+abbrev plain : List ℕ → List ℕ
+plain [] = []
+plain (kind ∷ kinds) = (kind ∷ replicate 7 0) ++ plain kinds
+
+-- STATION, SKIP
+abbrev one-skip : List ℕ
+one-skip = plain (STATION ∷ SKIP ∷ [])
+
+-- STATION, SKIP, SKIP
+abbrev two-skips : List ℕ
+two-skips = plain (STATION ∷ SKIP ∷ SKIP ∷ [])
 
 -- the seven records of Dryer's list
 abbrev list : List ℕ
@@ -34,230 +65,363 @@ list =
     ++ (3 ∷ 0 ∷ 0 ∷ 2 ∷ 1 ∷ 0 ∷ 0 ∷ 0 ∷ 1 ∷ 1 ∷ 0 ∷ 0 ∷ 0 ∷ 0 ∷ 0 ∷ 0 ∷ [])
     ++ (17 ∷ 0 ∷ 0 ∷ 0 ∷ 0 ∷ 0 ∷ 0 ∷ 0 ∷ 1 ∷ 0 ∷ 0 ∷ 0 ∷ 0 ∷ 0 ∷ 0 ∷ 0 ∷ [])
 
--- its states with no step and one, and a log with room whose bytes are none that a call writes
-abbrev at-start : State
-at-start =
+-- its states with B = 1 and no step, one and two; station 0's step has reset 1
+abbrev dryer : ℕ → ℕ → ℕ → ℤ → ℕ → State
+dryer v first second priority m =
     record {
-      vars = replicate 32 0;
-      positions = 2 ∷ 4 ∷ replicate 6 0;
-      priorities = replicate 8 (pos 0);
+      vars = v ∷ replicate 31 0;
+      positions = first ∷ second ∷ replicate 6 0;
+      priorities = priority ∷ replicate 7 (pos 0);
       n = 2;
-      b = 0;
-      m = 0;
+      b = 1;
+      m = m;
     }
 
-abbrev after-one : State
-after-one =
+abbrev s₀ : State
+s₀ = dryer 0 2 4 (pos 0) 0
+
+abbrev s₁ : State
+s₁ = dryer 1 3 4 (pos 1) 1
+
+abbrev s₂ : State
+s₂ = dryer 2 3 6 (pos 1) 2
+
+abbrev pick : ℕ → ℕ → Pick
+pick station reset = record { station = station; reset = reset }
+
+-- a log with room whose bytes are none that a call writes; after the start, and after one step and two
+abbrev junk : List ℕ
+junk = replicate 8 9
+
+abbrev l₀ : List ℕ
+l₀ = 0 ∷ 0 ∷ 1 ∷ 0 ∷ 9 ∷ 9 ∷ 9 ∷ 9 ∷ []
+
+abbrev l₁ : List ℕ
+l₁ = 0 ∷ 0 ∷ 1 ∷ 0 ∷ 0 ∷ 1 ∷ 9 ∷ 9 ∷ []
+
+abbrev l₂ : List ℕ
+l₂ = 0 ∷ 0 ∷ 1 ∷ 0 ∷ 0 ∷ 1 ∷ 1 ∷ 0 ∷ []
+
+abbrev resets : List ℕ
+resets = 0 ∷ 0 ∷ []
+
+abbrev picks : List ℕ
+picks = 0 ∷ 1 ∷ 1 ∷ 0 ∷ []
+
+-- what stands after them
+abbrev t₀ : Steps
+t₀ = begun 1 resets s₀
+
+abbrev t₁ : Steps
+t₁ = taken t₀ (pick 0 1) s₁
+
+abbrev t₂ : Steps
+t₂ = taken t₁ (pick 1 0) s₂
+
+-- and so how things are
+abbrev fresh : Now
+fresh = record { state = zeros; log = junk; standing = none }
+
+abbrev n₀ : Now
+n₀ = record { state = s₀; log = l₀; standing = some t₀ }
+
+abbrev n₁ : Now
+n₁ = record { state = s₁; log = l₁; standing = some t₁ }
+
+abbrev n₂ : Now
+n₂ = record { state = s₂; log = l₂; standing = some t₂ }
+
+abbrev calls : List Call
+calls = START 1 resets ∷ STEP (pick 0 1) ∷ []
+
+-- what the rules answer
+record Computed : Type 0 where
+  begins : start list 1 resets junk ≡ record { number = 0; state = s₀; log = l₀ }
+  begins-0 : start list 0 resets junk .number ≡ 0
+  first-step : step list s₀ l₀ (pick 0 1) ≡ record { number = 0; state = s₁; log = l₁ }
+  second-step : step list s₁ l₁ (pick 1 0) ≡ record { number = 0; state = s₂; log = l₂ }
+  one-run : run list s₀ l₀ picks 1 ≡ record { number = 0; state = s₁; steps = 1; log = l₁ }
+  both-run : run list s₀ l₀ picks 5 ≡ record { number = 0; state = s₂; steps = 2; log = l₂ }
+  before : before-steps list s₀ picks ≡ 0
+  lit-0 : lights list s₀ .number ≡ 0
+  ready-0 : lights list s₀ .ready ≡ 1
+  lit-1 : lights list s₁ .number ≡ 0
+  ready-1 : lights list s₁ .ready ≡ 2
+  waits : ready list s₀ 1 ≡ false
+  released : ready list s₁ 1 ≡ true
+  empty : check [] ≡ record { number = 1; place = 0 }
+  accepted : check one-skip ≡ record { number = 0; place = 0 }
+  unfinished : check (plain (STATION ∷ [])) ≡ record { number = 4; place = 1 }
+  one-built : build one-skip (replicate 48 9) .number ≡ 0
+  one-count : build one-skip (replicate 48 9) .count ≡ 3
+  one-byte : getD (build one-skip (replicate 48 9) .buffer) 0 0 ≡ 16
+  two-built : build two-skips (replicate 64 9) .number ≡ 0
+  two-count : build two-skips (replicate 64 9) .count ≡ 4
+
+computed : Computed
+unfolding each first tally mask values changed written judge record-from list-record-at rules-of fields-right stride wrong-at walked well-shaped too-deep-at check wrong-length field-place station-count depth-place parts-of stations-of leading-sets initial-part size laid inits bodies list-of bytes-of build stations initials is-at init-right initial-right outside-targets inside-targets later-right sound-list few-low empty-at sound-state set-value holds initial-run started start-records start ended waiting ready lowest body-run step-vars step-position charge stepped step steps-from run reads writes led-to body some-of touches lights
+computed =
     record {
-      vars = 1 ∷ replicate 31 0;
-      positions = 3 ∷ 4 ∷ replicate 6 0;
-      priorities = replicate 8 (pos 0);
-      n = 2;
-      b = 0;
-      m = 1;
+      begins = refl;
+      begins-0 = refl;
+      first-step = refl;
+      second-step = refl;
+      one-run = refl;
+      both-run = refl;
+      before = refl;
+      lit-0 = refl;
+      ready-0 = refl;
+      lit-1 = refl;
+      ready-1 = refl;
+      waits = refl;
+      released = refl;
+      empty = refl;
+      accepted = refl;
+      unfinished = refl;
+      one-built = refl;
+      one-count = refl;
+      one-byte = refl;
+      two-built = refl;
+      two-count = refl;
     }
 
-abbrev log : List ℕ
-log = replicate 8 9
+held : (v first second m : ℕ) (z : ℤ) → Held (dryer v first second z m)
+held v first second m z = record { vars = refl; positions = refl; priorities = refl }
 
-abbrev pick : ℕ → Pick
-pick station = record { station = station; reset = 0 }
+-- two states that differ in their m
+apart : {s t : State} → s ≡ t → s .m ≢ t .m → ⊥
+apart e d = d (ap (λ (u : State). u .m) e)
 
--- the same state, one step on
-abbrev only-m : State → State
-only-m s = record { vars = s .vars; positions = s .positions; priorities = s .priorities; n = s .n; b = s .b; m = s .m + 1 }
+-- what calls that meet demand 2 answer there
+module _ (bench : Seven) (two : Demand2 bench) where
+  begins : bench .start list 1 resets junk ≡ record { number = 0; state = s₀; log = l₀ }
+  begins = start-same bench two list 1 resets junk (ap (λ (a : Started). a .number) (computed .begins)) ∙ computed .begins
 
-first-step : step list at-start log (pick 0) ≡ record { number = 0; state = after-one; log = written log 4 (0 ∷ 0 ∷ []) }
-unfolding each first tally values changed written judge record-from list-record-at rules-of fields-right stations initials is-at init-right initial-right outside-targets inside-targets later-right sound-list few-low empty-at sound-state set-value holds ended waiting ready lowest body-run step-vars step-position charge stepped step
-first-step = refl
+  first-step : bench .step list s₀ l₀ (pick 0 1) ≡ record { number = 0; state = s₁; log = l₁ }
+  first-step =
+      step-same bench two list s₀ l₀ (pick 0 1) (held 0 2 4 0 (pos 0)) (ap (λ (a : Stepped). a .number) (computed .first-step)) ∙ computed .first-step
 
-second-step : step list after-one log (pick 1) .state .vars ≡ 2 ∷ replicate 31 0
-unfolding each first tally values changed written judge record-from list-record-at rules-of fields-right stations initials is-at init-right initial-right outside-targets inside-targets later-right sound-list few-low empty-at sound-state set-value holds ended waiting ready lowest body-run step-vars step-position charge stepped step
-second-step = refl
+  second-step : bench .step list s₁ l₁ (pick 1 0) ≡ record { number = 0; state = s₂; log = l₂ }
+  second-step =
+      step-same bench two list s₁ l₁ (pick 1 0) (held 1 3 4 1 (pos 1)) (ap (λ (a : Stepped). a .number) (computed .second-step)) ∙ computed .second-step
 
-not-ready : step list at-start log (pick 1) .number ≡ 11
-unfolding each first tally values changed written judge record-from list-record-at rules-of fields-right stations initials is-at init-right initial-right outside-targets inside-targets later-right sound-list few-low empty-at sound-state set-value holds ended waiting ready lowest step
-not-ready = refl
+  one-run : bench .run list s₀ l₀ picks 1 ≡ record { number = 0; state = s₁; steps = 1; log = l₁ }
+  one-run = run-same bench two list s₀ l₀ picks 1 (held 0 2 4 0 (pos 0)) (ap (λ (a : Ran). a .number) (computed .one-run)) ∙ computed .one-run
 
--- a program's answers for every list, state, log and pick
-module _ (f : List ℕ → State → List ℕ → Pick → Stepped) (promise : (list : List ℕ) (s : State) (log : List ℕ) (p : Pick) → f list s log p ≡ step list s log p) where
-  pub step-not-refused : ((list : List ℕ) (s : State) (log : List ℕ) (p : Pick) → f list s log p .number ≡ 0 → ⊥) → ⊥
-  step-not-refused h = h list at-start log (pick 0) (ap (λ (a : Stepped). a .number) (promise list at-start log (pick 0) ∙ first-step))
+  both-run : bench .run list s₀ l₀ picks 5 ≡ record { number = 0; state = s₂; steps = 2; log = l₂ }
+  both-run = run-same bench two list s₀ l₀ picks 5 (held 0 2 4 0 (pos 0)) (ap (λ (a : Ran). a .number) (computed .both-run)) ∙ computed .both-run
 
-  pub step-not-constant : (c : Stepped) → ((list : List ℕ) (s : State) (log : List ℕ) (p : Pick) → f list s log p ≡ c) → ⊥
-  step-not-constant c h =
-      let a = ap (λ (a : Stepped). a .number) (sym (h list at-start log (pick 0)) ∙ promise list at-start log (pick 0) ∙ first-step) in
-      let b = ap (λ (a : Stepped). a .number) (sym (h list at-start log (pick 1)) ∙ promise list at-start log (pick 1)) ∙ not-ready in
-      omega arith
+  -- a start, one step, and two; and one step back
+  goes : Call → Now → Now
+  goes c now = called bench list now c
 
-  pub step-writes : ((list : List ℕ) (s : State) (log : List ℕ) (p : Pick) → f list s log p .log ≡ log) → ⊥
-  unfolding written
-  step-writes h =
-      let a : _≡_ {A = ℕ} 9 0 = ap (λ (l : List ℕ). getD l 4 0) (sym (h list at-start log (pick 0)) ∙ ap (λ (a : Stepped). a .log) (promise list at-start log (pick 0) ∙ first-step)) in
-      omega arith
+  started-there : goes (START 1 resets) fresh ≡ n₀
+  unfolding goes called
+  started-there = rw begins
 
-  -- the first step true, and from then on only m
-  pub step-goes-on : ((list : List ℕ) (s : State) (log : List ℕ) (p : Pick) → 1 ≤ s .m → f list s log p .state ≡ only-m s) → ⊥
-  step-goes-on h =
-      let a : _≡_ {A = ℕ} 1 2 =
-      ap (λ (s : State). getD (s .vars) 0 0) (sym (h list after-one log (pick 1) (omega arith)))
-      ∙ ap (λ (a : Stepped). getD (a .state .vars) 0 0) (promise list after-one log (pick 1))
-      ∙ ap (λ (l : List ℕ). getD l 0 0) second-step in
-      omega arith
+  stepped-once : goes (STEP (pick 0 1)) n₀ ≡ n₁
+  unfolding goes called stepped-on
+  stepped-once = rw first-step
 
--- START
-start-taken : start list 0 (0 ∷ 0 ∷ []) log ≡ record { number = 0; state = at-start; log = written log 0 (0 ∷ 0 ∷ 1 ∷ 0 ∷ []) }
-unfolding each first values written judge record-from list-record-at rules-of fields-right stations initials is-at init-right initial-right outside-targets inside-targets later-right sound-list initial-run started start-records start
-start-taken = refl
+  stepped-twice : goes (STEP (pick 1 0)) n₁ ≡ n₂
+  unfolding goes called stepped-on
+  stepped-twice = rw second-step
 
-start-refused : start list 0 [] log .number ≡ 13
-unfolding each first values written judge record-from list-record-at rules-of fields-right stations initials is-at init-right initial-right outside-targets inside-targets later-right sound-list start
-start-refused = refl
+  after-start : history bench list zeros junk (START 1 resets ∷ []) ≡ n₀
+  unfolding goes calls-from
+  after-start = started-there
 
-module _ (f : List ℕ → ℕ → List ℕ → List ℕ → Started) (promise : (list : List ℕ) (b : ℕ) (resets log : List ℕ) → f list b resets log ≡ start list b resets log) where
-  pub start-not-refused : ((list : List ℕ) (b : ℕ) (resets log : List ℕ) → f list b resets log .number ≡ 0 → ⊥) → ⊥
-  start-not-refused h = h list 0 (0 ∷ 0 ∷ []) log (ap (λ (a : Started). a .number) (promise list 0 (0 ∷ 0 ∷ []) log ∙ start-taken))
+  after-one : history bench list zeros junk calls ≡ n₁
+  unfolding goes calls-from
+  after-one = ap (goes (STEP (pick 0 1))) started-there ∙ stepped-once
 
-  pub start-not-constant : (c : Started) → ((list : List ℕ) (b : ℕ) (resets log : List ℕ) → f list b resets log ≡ c) → ⊥
-  start-not-constant c h =
-      let a = ap (λ (a : Started). a .number) (sym (h list 0 (0 ∷ 0 ∷ []) log) ∙ promise list 0 (0 ∷ 0 ∷ []) log ∙ start-taken) in
-      let b = ap (λ (a : Started). a .number) (sym (h list 0 [] log) ∙ promise list 0 [] log) ∙ start-refused in
-      omega arith
+  after-two : history bench list zeros junk (calls ++ (STEP (pick 1 0) ∷ [])) ≡ n₂
+  unfolding goes calls-from
+  after-two = ap (goes (STEP (pick 1 0))) after-one ∙ stepped-twice
 
-  pub start-writes : ((list : List ℕ) (b : ℕ) (resets log : List ℕ) → f list b resets log .log ≡ log) → ⊥
-  unfolding written
-  start-writes h =
-      let a : _≡_ {A = ℕ} 9 0 = ap (λ (l : List ℕ). getD l 0 0) (sym (h list 0 (0 ∷ 0 ∷ []) log) ∙ ap (λ (a : Started). a .log) (promise list 0 (0 ∷ 0 ∷ []) log ∙ start-taken)) in
-      omega arith
+  back-once : bench .undo list s₁ l₁ ≡ record { number = 0; state = s₀ }
+  back-once = rw after-one at (two .undo-below list zeros junk calls t₁ (rw after-one) .undone)
 
--- RUN, with the picks of both steps
-both-steps : run list at-start log (0 ∷ 0 ∷ 1 ∷ 0 ∷ []) 5 .steps ≡ 2
-unfolding each first tally values changed written judge record-from list-record-at rules-of fields-right stations initials is-at init-right initial-right outside-targets inside-targets later-right sound-list few-low empty-at sound-state set-value holds ended waiting ready lowest body-run step-vars step-position charge stepped step steps-from run
-both-steps = refl
+  back-twice : bench .undo list s₂ l₂ ≡ record { number = 0; state = s₁ }
+  back-twice = rw after-two at (two .undo-below list zeros junk (calls ++ (STEP (pick 1 0) ∷ [])) t₂ (rw after-two) .undone)
 
-both-vars : getD (run list at-start log (0 ∷ 0 ∷ 1 ∷ 0 ∷ []) 5 .state .vars) 0 0 ≡ 2
-unfolding each first tally values changed written judge record-from list-record-at rules-of fields-right stations initials is-at init-right initial-right outside-targets inside-targets later-right sound-list few-low empty-at sound-state set-value holds ended waiting ready lowest body-run step-vars step-position charge stepped step steps-from run
-both-vars = refl
+  gone-back : goes UNDO n₁ ≡ record { state = s₀; log = l₁; standing = some t₀ }
+  unfolding goes called
+  gone-back = rw back-once
 
-both-taken : run list at-start log (0 ∷ 0 ∷ 1 ∷ 0 ∷ []) 5 .number ≡ 0
-unfolding each first tally values changed written judge record-from list-record-at rules-of fields-right stations initials is-at init-right initial-right outside-targets inside-targets later-right sound-list few-low empty-at sound-state set-value holds ended waiting ready lowest body-run step-vars step-position charge stepped step steps-from run
-both-taken = refl
+  after-back : history bench list zeros junk (calls ++ (UNDO ∷ [])) ≡ record { state = s₀; log = l₁; standing = some t₀ }
+  unfolding goes calls-from
+  after-back = ap (goes UNDO) after-one ∙ gone-back
 
-both-logged : getD (run list at-start log (0 ∷ 0 ∷ 1 ∷ 0 ∷ []) 5 .log) 4 0 ≡ 0
-unfolding each first tally values changed written judge record-from list-record-at rules-of fields-right stations initials is-at init-right initial-right outside-targets inside-targets later-right sound-list few-low empty-at sound-state set-value holds ended waiting ready lowest body-run step-vars step-position charge stepped step steps-from run
-both-logged = refl
+  lit-0 : bench .lights list s₀ ≡ lights list s₀
+  lit-0 =
+      let lit = rw after-start at (two .lights-fresh list zeros junk (START 1 resets ∷ []) t₀ (rw after-start) .lit) in
+      shows-only list s₀ (bench .lights list s₀) (lights list s₀) (lit .0 ∙ sym (computed .lit-0)) (lit .1) (lights-show list s₀ (computed .lit-0))
 
-odd-refused : run list at-start log (0 ∷ []) 5 .number ≡ 1
-unfolding judge run
-odd-refused = refl
+  lit-1 : bench .lights list s₁ ≡ lights list s₁
+  lit-1 =
+      let lit = rw after-one at (two .lights-fresh list zeros junk calls t₁ (rw after-one) .lit) in
+      shows-only list s₁ (bench .lights list s₁) (lights list s₁) (lit .0 ∙ sym (computed .lit-1)) (lit .1) (lights-show list s₁ (computed .lit-1))
 
-module _ (f : List ℕ → State → List ℕ → List ℕ → ℕ → Ran)
-    (promise : (list : List ℕ) (s : State) (log picks : List ℕ) (most : ℕ) → f list s log picks most ≡ run list s log picks most) where
-  pub run-not-refused : ((list : List ℕ) (s : State) (log picks : List ℕ) (most : ℕ) → f list s log picks most .number ≡ 0 → ⊥) → ⊥
-  run-not-refused h = h list at-start log (0 ∷ 0 ∷ 1 ∷ 0 ∷ []) 5 (ap (λ (a : Ran). a .number) (promise list at-start log (0 ∷ 0 ∷ 1 ∷ 0 ∷ []) 5) ∙ both-taken)
+  number-0 : bench .lights list s₀ .number ≡ 0
+  number-0 = ap (λ (a : Lights). a .number) lit-0 ∙ computed .lit-0
 
-  pub run-not-constant : (c : Ran) → ((list : List ℕ) (s : State) (log picks : List ℕ) (most : ℕ) → f list s log picks most ≡ c) → ⊥
-  run-not-constant c h =
-      let a = ap (λ (a : Ran). a .number) (sym (h list at-start log (0 ∷ 0 ∷ 1 ∷ 0 ∷ []) 5) ∙ promise list at-start log (0 ∷ 0 ∷ 1 ∷ 0 ∷ []) 5) ∙ both-taken in
-      let b = ap (λ (a : Ran). a .number) (sym (h list at-start log (0 ∷ []) 5) ∙ promise list at-start log (0 ∷ []) 5) ∙ odd-refused in
-      omega arith
+  number-1 : bench .lights list s₁ .number ≡ 0
+  number-1 = ap (λ (a : Lights). a .number) lit-1 ∙ computed .lit-1
 
-  pub run-writes : ((list : List ℕ) (s : State) (log picks : List ℕ) (most : ℕ) → f list s log picks most .log ≡ log) → ⊥
-  run-writes h =
-      let a : _≡_ {A = ℕ} 9 0 =
-      ap (λ (l : List ℕ). getD l 4 0) (sym (h list at-start log (0 ∷ 0 ∷ 1 ∷ 0 ∷ []) 5) ∙ ap (λ (a : Ran). a .log) (promise list at-start log (0 ∷ 0 ∷ 1 ∷ 0 ∷ []) 5)) ∙ both-logged in
-      omega arith
+  ready-0 : bench .lights list s₀ .ready ≡ 1
+  ready-0 = ap (λ (a : Lights). a .ready) lit-0 ∙ computed .ready-0
 
-  -- the first step true, and from then on only m
-  pub run-goes-on : ((list : List ℕ) (s : State) (log picks : List ℕ) (most : ℕ) → f list s log picks most .state .vars ≡ step list s log (record { station = getD picks 0 0; reset = getD picks 1 0 }) .state .vars) → ⊥
-  run-goes-on h =
-      let a : _≡_ {A = ℕ} 1 2 =
-      ap (λ (a : Stepped). getD (a .state .vars) 0 0) (sym first-step)
-      ∙ ap (λ (l : List ℕ). getD l 0 0) (sym (h list at-start log (0 ∷ 0 ∷ 1 ∷ 0 ∷ []) 5))
-      ∙ ap (λ (a : Ran). getD (a .state .vars) 0 0) (promise list at-start log (0 ∷ 0 ∷ 1 ∷ 0 ∷ []) 5)
-      ∙ both-vars in
-      omega arith
+  ready-1 : bench .lights list s₁ .ready ≡ 2
+  ready-1 = ap (λ (a : Lights). a .ready) lit-1 ∙ computed .ready-1
 
-  -- a number of steps that is invented: any function of the picks alone is wrong where the picks are refused
-  pub run-counts : (g : List ℕ → ℕ → ℕ) → ((list : List ℕ) (s : State) (log picks : List ℕ) (most : ℕ) → f list s log picks most .steps ≡ g picks most) → ⊥
-  unfolding judge stations first sound-list run
-  run-counts g h =
-      let a : g (0 ∷ 0 ∷ 1 ∷ 0 ∷ []) 5 ≡ 2 =
-      sym (h list at-start log (0 ∷ 0 ∷ 1 ∷ 0 ∷ []) 5) ∙ ap (λ (a : Ran). a .steps) (promise list at-start log (0 ∷ 0 ∷ 1 ∷ 0 ∷ []) 5) ∙ both-steps in
-      let b : g (0 ∷ 0 ∷ 1 ∷ 0 ∷ []) 5 ≡ 0 =
-      sym (h [] at-start log (0 ∷ 0 ∷ 1 ∷ 0 ∷ []) 5) ∙ ap (λ (a : Ran). a .steps) (promise [] at-start log (0 ∷ 0 ∷ 1 ∷ 0 ∷ []) 5) in
-      omega arith
+  -- one answer cannot show both the state after the step and the one before it
+  kept : (lit : List ℕ → State → List ℕ → List Call → Lights)
+      → ((list : List ℕ) (s : State) (log : List ℕ) (calls : List Call) (steps : Steps) → history bench list s log calls .standing ≡ some steps
+      → Lit list (history bench list s log calls .state) (lit list s log calls))
+      → ((list : List ℕ) (s : State) (log : List ℕ) (calls : List Call) (steps : Steps) (p : Pick) (t : State)
+      → history bench list s log calls .standing ≡ some (taken steps p t)
+      → lit list s log (calls ++ (UNDO ∷ [])) .ready ≡ lit list s log calls .ready) → ⊥
+  kept lit fresh keeps =
+      let forward = rw after-one at (fresh list zeros junk calls t₁ (rw after-one)) in
+      let back = rw after-back at (fresh list zeros junk (calls ++ (UNDO ∷ [])) t₀ (rw after-back)) in
+      let on = forward .1 .on-ready 1 .1 (omega arith, computed .released) in
+      let same = rw (sym (keeps list zeros junk calls t₀ (pick 0 1) s₁ (rw after-one))) at on in
+      false≢true (sym (computed .waits) ∙ back .1 .on-ready 1 .0 same .1)
 
--- UNDO of the first step, with the log that it left
-abbrev logged : List ℕ
-logged = 0 ∷ 0 ∷ 1 ∷ 0 ∷ 0 ∷ 0 ∷ []
+  -- each single step is one step more
+  counted : {list picks : List ℕ} {s : State} {log : List ℕ} {k : ℕ} {t : State} {left : List ℕ} → Held s → Singles bench list picks s log k t left
+      → t .m ≡ s .m + k
+  counted h Singles.none = omega arith
+  counted {list} {picks} h (one-more {k} {t} {left} x e) =
+      let there = singles-ruled bench two h x .1 in
+      omega (arith, counted h x, two .step-does list t left (pick-at picks k) there e .0 .m-is)
 
-undone : undo list after-one logged ≡ record { number = 0; state = at-start }
-unfolding each first tally values changed written judge record-from list-record-at rules-of fields-right stations initials is-at init-right initial-right outside-targets inside-targets later-right sound-list few-low empty-at sound-state initial-run started replay starts-right replayed undo
-undone = refl
+  invents : (list : List ℕ) (s : State) (log picks : List ℕ) (most k : ℕ) → Held s
+      → Singles bench list picks s log k (bench .run list s log picks most .state) (bench .run list s log picks most .log)
+      → bench .run list s log picks most .steps ≢ k → ⊥
+  invents list s log picks most k h x other =
+      let r = two .run-stops list s log picks most in
+      let c = counted h x in
+      by-test (eqb (before-steps list s picks) 0)
+      (λ e. other (omega (arith, c, counted h (r .stops (eqb-true _ 0 e) .singles))))
+      (λ e.
+      let first = r .refused-first (eqb-false _ 0 e) in
+      other (omega (arith, c, ap (λ (a : Ran). a .steps) first, ap (λ (a : Ran). a .state .m) first)))
 
-undo-empty : undo list at-start logged .number ≡ 14
-unfolding each first tally values changed written judge record-from list-record-at rules-of fields-right stations initials is-at init-right initial-right outside-targets inside-targets later-right sound-list few-low empty-at sound-state undo
-undo-empty = refl
+  -- a station that was not ready keeps its number
+  stays : (list : List ℕ) (s : State) (log : List ℕ) (p : Pick) → Held s → bench .step list s log p .number ≡ 0
+      → (j : ℕ) → j < s .n → ready list s j ≡ false → priority (bench .step list s log p .state) j ≡ priority s j
+  stays list s log p h e j l r =
+      let d = two .step-does list s log p h e .0 in
+      d .priorities .stays j l (λ same. false≢true (sym r ∙ rw same (d .chosen .enabled))) r
 
-module _ (f : List ℕ → State → List ℕ → Undone) (promise : (list : List ℕ) (s : State) (log : List ℕ) → f list s log ≡ undo list s log) where
-  pub undo-not-refused : ((list : List ℕ) (s : State) (log : List ℕ) → f list s log .number ≡ 0 → ⊥) → ⊥
-  undo-not-refused h = h list after-one logged (ap (λ (a : Undone). a .number) (promise list after-one logged ∙ undone))
+not-ready : (list : List ℕ) (s : State) (j : ℕ) → waiting list s j ≡ true → ready list s j ≡ false
+unfolding ready
+not-ready list s j w = rw (w, and-false)
 
-  pub undo-not-constant : (c : Undone) → ((list : List ℕ) (s : State) (log : List ℕ) → f list s log ≡ c) → ⊥
-  undo-not-constant c h =
-      let a = ap (λ (a : Undone). a .number) (sym (h list after-one logged) ∙ promise list after-one logged ∙ undone) in
-      let b = ap (λ (a : Undone). a .number) (sym (h list at-start logged) ∙ promise list at-start logged) ∙ undo-empty in
-      omega arith
+pub by-demand-2 : ByDemand2
+by-demand-2 bench two =
+    let starts = begins bench two in
+    let first = first-step bench two in
+    let second = second-step bench two in
+    record {
+      start-refuses = λ h. h list 1 resets junk (ap (λ (a : Started). a .number) starts);
+      step-refuses = λ h. h list s₀ l₀ (pick 0 1) (ap (λ (a : Stepped). a .number) first);
+      run-refuses = λ h. h list s₀ l₀ picks 5 (omega arith) (omega arith) (ap (λ (a : Ran). a .number) (both-run bench two));
+      undo-refuses = λ h. h list s₁ l₁ (ap (λ (a : Undone). a .number) (back-once bench two));
+      lights-refuses = λ h. h list s₀ (number-0 bench two);
+      start-constant = λ t h.
+          let other = start-same bench two list 0 resets junk (computed .begins-0) in
+          let zero = ap (λ (a : Started). a .number) other ∙ computed .begins-0 in
+          let x = h list 1 resets junk (ap (λ (a : Started). a .number) starts) in
+          let e : _≡_ {A = ℕ} 1 0 =
+          sym (ap (λ (a : Started). a .state .b) starts) ∙ ap (λ (s : State). s .b) (x ∙ sym (h list 0 resets junk zero))
+          ∙ two .start-begins list 0 resets junk zero .0 .b-is in
+          omega (arith, e);
+      step-constant = λ t h.
+          let x = h list s₀ l₀ (pick 0 1) (ap (λ (a : Stepped). a .number) first) in
+          let y = h list s₁ l₁ (pick 1 0) (ap (λ (a : Stepped). a .number) second) in
+          apart (sym (ap (λ (a : Stepped). a .state) first) ∙ x ∙ sym y ∙ ap (λ (a : Stepped). a .state) second) (omega arith);
+      run-constant = λ t k h.
+          let one = one-run bench two in
+          let both = both-run bench two in
+          let x = h list s₀ l₀ picks 1 (omega (arith, ap (λ (a : Ran). a .steps) one)) (ap (λ (a : Ran). a .number) one) .1 in
+          let y = h list s₀ l₀ picks 5 (omega (arith, ap (λ (a : Ran). a .steps) both)) (ap (λ (a : Ran). a .number) both) .1 in
+          let e : _≡_ {A = ℕ} 1 2 = sym (ap (λ (a : Ran). a .steps) one) ∙ x ∙ sym y ∙ ap (λ (a : Ran). a .steps) both in
+          omega (arith, e);
+      undo-constant = λ t h.
+          let x = h list s₁ l₁ (ap (λ (a : Undone). a .number) (back-once bench two)) in
+          let y = h list s₂ l₂ (ap (λ (a : Undone). a .number) (back-twice bench two)) in
+          apart (sym (ap (λ (a : Undone). a .state) (back-once bench two)) ∙ x ∙ sym y ∙ ap (λ (a : Undone). a .state) (back-twice bench two)) (omega arith);
+      lights-constant = λ a h.
+          let e : _≡_ {A = ℕ} 1 2 =
+          sym (ready-0 bench two) ∙ ap (λ (a : Lights). a .ready) (h list s₀ (number-0 bench two) ∙ sym (h list s₁ (number-1 bench two))) ∙ ready-1 bench two in
+          omega (arith, e);
+      start-writes-nothing = λ h.
+          let e : _≡_ {A = ℕ} 9 0 = ap (λ (l : List ℕ). getD l 0 0) (sym (h list 1 resets junk) ∙ ap (λ (a : Started). a .log) starts) in
+          omega (arith, e);
+      step-writes-nothing = λ h.
+          let e : _≡_ {A = ℕ} 9 0 = ap (λ (l : List ℕ). getD l 4 0) (sym (h list s₀ l₀ (pick 0 1)) ∙ ap (λ (a : Stepped). a .log) first) in
+          omega (arith, e);
+      run-writes-nothing = λ h.
+          let e : _≡_ {A = ℕ} 9 0 = ap (λ (l : List ℕ). getD l 4 0) (sym (h list s₀ l₀ picks 5) ∙ ap (λ (a : Ran). a .log) (both-run bench two)) in
+          omega (arith, e);
+      step-only-m = λ h.
+          let e : _≡_ {A = ℕ} 1 2 = ap (λ (s : State). getD (s .vars) 0 0)
+          (sym (h list s₁ l₁ (pick 1 0) (omega arith) (ap (λ (a : Stepped). a .number) second)) ∙ ap (λ (a : Stepped). a .state) second) in
+          omega (arith, e);
+      run-only-m = λ h.
+          let both = both-run bench two in
+          let made = h list s₀ l₀ picks 5 refl (omega (arith, ap (λ (a : Ran). a .steps) both)) (ap (λ (a : Ran). a .number) both) in
+          let e : _≡_ {A = ℕ} 1 2 =
+          sym (ap (λ (a : Stepped). getD (a .state .vars) 0 0) first) ∙ sym (ap (λ (s : State). getD (s .vars) 0 0) made)
+          ∙ ap (λ (a : Ran). getD (a .state .vars) 0 0) both in
+          omega (arith, e);
+      run-invents = invents bench two;
+      run-idle = λ h.
+          let e : _≡_ {A = ℕ} 0 2 = sym (h list s₀ l₀ picks 5 (computed .before)) ∙ ap (λ (a : Ran). a .steps) (both-run bench two) in
+          omega (arith, e);
+      lights-dark = λ h.
+          let e : _≡_ {A = ℕ} 0 1 = sym (ap (λ (a : Lights). a .ready) (h list s₀ (number-0 bench two))) ∙ ready-0 bench two in
+          omega (arith, e);
+      lights-kept = kept bench two;
+      undo-priorities = λ list s log calls steps stands other.
+          other (ap (λ (a : Undone). a .state .priorities) (two .undo-below list s log calls steps stands .undone));
+      waiting-charged = λ list s log p h e j l w other. other (stays bench two list s log p h e j l (not-ready list s j w));
+      judged-late = λ list s log p h e j l r after other. other (stays bench two list s log p h e j l r);
+      another-b = λ list b resets log e other. other (two .start-begins list b resets log e .0 .b-is);
+    }
 
-  -- m alone taken back
-  pub undo-takes-back : ((list : List ℕ) (s : State) (log : List ℕ) → f list s log .state .vars ≡ s .vars) → ⊥
-  undo-takes-back h =
-      let a : _≡_ {A = ℕ} 1 0 =
-      ap (λ (l : List ℕ). getD l 0 0) (sym (h list after-one logged))
-      ∙ ap (λ (a : Undone). getD (a .state .vars) 0 0) (promise list after-one logged ∙ undone) in
-      omega arith
-
--- LIGHTS at the start and after the first step
-lit-at-start : lights list at-start .ready ≡ 1
-unfolding each first tally mask values changed written judge record-from list-record-at rules-of fields-right stations initials is-at init-right initial-right outside-targets inside-targets later-right sound-list few-low empty-at sound-state set-value holds ended waiting ready lowest reads writes led-to body some-of touches lights
-lit-at-start = refl
-
-lit-after-one : lights list after-one .ready ≡ 2
-unfolding each first tally mask values changed written judge record-from list-record-at rules-of fields-right stations initials is-at init-right initial-right outside-targets inside-targets later-right sound-list few-low empty-at sound-state set-value holds ended waiting ready lowest reads writes led-to body some-of touches lights
-lit-after-one = refl
-
-lit-number : lights list at-start .number ≡ 0
-unfolding each first tally mask values changed written judge record-from list-record-at rules-of fields-right stations initials is-at init-right initial-right outside-targets inside-targets later-right sound-list few-low empty-at sound-state set-value holds ended waiting ready lowest reads writes led-to body some-of touches lights
-lit-number = refl
-
-module _ (f : List ℕ → State → Lights) (promise : (list : List ℕ) (s : State) → f list s ≡ lights list s) where
-  pub lights-not-refused : ((list : List ℕ) (s : State) → f list s .number ≡ 0 → ⊥) → ⊥
-  lights-not-refused h = h list at-start (ap (λ (a : Lights). a .number) (promise list at-start) ∙ lit-number)
-
-  -- nor kept from another state of the same list
-  pub lights-not-kept : (g : List ℕ → Lights) → ((list : List ℕ) (s : State) → f list s ≡ g list) → ⊥
-  lights-not-kept g h =
-      let a = ap (λ (a : Lights). a .ready) (sym (h list at-start) ∙ promise list at-start) ∙ lit-at-start in
-      let b = ap (λ (a : Lights). a .ready) (sym (h list after-one) ∙ promise list after-one) ∙ lit-after-one in
-      omega arith
-
--- a step that judges readiness after it: the station just released is charged, which UPDATE does not allow
-unfoldable pub late-charge : List ℕ → State → Pick → List ℤ
-late-charge list s p =
-    changed (λ j. charged (eqb j (p .station)) (ready list (stepped list s p) j) (p .reset)) (s .n) (s .priorities)
-
-released : getD (late-charge list at-start (pick 0)) 1 (pos 0) ≡ negsuc 0
-unfolding changed record-from list-record-at set-value holds ended waiting ready body-run step-vars step-position charge stepped late-charge
-released = refl
-
-was-waiting : ready list at-start 1 ≡ false
-unfolding record-from list-record-at holds ended waiting ready
-was-waiting = refl
-
-pub not-late : ((list : List ℕ) (s : State) (p : Pick) → Sch (s .n) (ready list s) (priority s) (p .station) → p .reset ≤ s .b
-    → Update (s .n) (ready list s) (s .b) (priority s) (λ j. getD (late-charge list s p) j (pos 0)) (p .station) (p .reset)) → ⊥
-not-late h = pos-ne-negsuc 0 0 (sym (h list at-start (pick 0) may-go (omega arith) .stays 1 (omega arith) (omega arith) was-waiting) ∙ released)
-  where
-    may-go : Sch 2 (ready list at-start) (priority at-start) 0
-    may-go = step-fair list at-start log (pick 0) (record { vars = refl; positions = refl; priorities = refl }) (ap (λ (a : Stepped). a .number) first-step) .0
+pub with-tests : WithTests
+with-tests bench one two =
+    let same = no-other bench one two in
+    let w = computed in
+    let one-built = same .build one-skip (replicate 48 9) in
+    let two-built = same .build two-skips (replicate 64 9) in
+    record {
+      check-refuses = λ h. h one-skip (ap (λ (a : Answer). a .number) (same .check one-skip ∙ w .accepted));
+      build-refuses = λ h. h one-skip (replicate 48 9) (ap (λ (a : Built). a .number) one-built ∙ w .one-built);
+      check-constant = λ a h.
+          let e : _≡_ {A = ℕ} 1 0 = ap (λ (a : Answer). a .number)
+          (sym (w .empty) ∙ sym (same .check []) ∙ h [] ∙ sym (h one-skip) ∙ same .check one-skip ∙ w .accepted) in
+          omega (arith, e);
+      check-one-place = λ place h.
+          let short = same .check [] ∙ w .empty in
+          let cut = same .check (plain (STATION ∷ [])) ∙ w .unfinished in
+          let x = h [] (λ z. let e : _≡_ {A = ℕ} 1 0 = sym (ap (λ (a : Answer). a .number) short) ∙ z in omega (arith, e)) in
+          let y = h (plain (STATION ∷ [])) (λ z. let e : _≡_ {A = ℕ} 4 0 = sym (ap (λ (a : Answer). a .number) cut) ∙ z in omega (arith, e)) in
+          let e : _≡_ {A = ℕ} 0 1 = sym (ap (λ (a : Answer). a .place) short) ∙ x ∙ sym y ∙ ap (λ (a : Answer). a .place) cut in
+          omega (arith, e);
+      build-constant = λ count h.
+          let x = h one-skip (replicate 48 9) (ap (λ (a : Built). a .number) one-built ∙ w .one-built) in
+          let y = h two-skips (replicate 64 9) (ap (λ (a : Built). a .number) two-built ∙ w .two-built) in
+          let e : _≡_ {A = ℕ} 3 4 =
+          sym (w .one-count) ∙ sym (ap (λ (a : Built). a .count) one-built) ∙ x ∙ sym y ∙ ap (λ (a : Built). a .count) two-built ∙ w .two-count in
+          omega (arith, e);
+      build-writes-nothing = λ h.
+          let e : _≡_ {A = ℕ} 9 16 =
+          sym (ap (λ (l : List ℕ). getD l 0 0) (h one-skip (replicate 48 9))) ∙ ap (λ (a : Built). getD (a .buffer) 0 0) one-built ∙ w .one-byte in
+          omega (arith, e);
+      another-list = λ file buffer e other. other (two .build-lays file buffer e .list-is);
+    }

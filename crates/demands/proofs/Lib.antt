@@ -1,4 +1,12 @@
 pub mod Order
+pub mod Runs
+pub mod Does
 pub mod Computed
+pub mod Written
+pub mod Lights
 pub mod Whole
+pub mod Unrefused
+pub mod Only
+pub mod Waiting
 pub mod Frauds
+pub mod Witness

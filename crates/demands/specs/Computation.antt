@@ -16,8 +16,8 @@ use Rattle.layout.specs.Built.{built}
 use Rattle.fair.specs.Fair.{Sch, Update}
 use Rattle.meaning.specs.Language.{E, ⟨_∣_⟩⟶*⟨_∣_⟩, component, Moves, Enabled}
 use Rattle.meaning.specs.Rests.{program-of, assignments}
-use Rattle.meaning.specs.Demand2.{programs}
-use Rattle.history.specs.History.{Steps, begun, taken, top}
+use Rattle.meaning.specs.Claims.{programs}
+use Rattle.rules.specs.History.{Steps, begun, taken, top}
 
 -- the initial part has been run from zeros, the stations are whole, and the scheduling variables are the resets, each from 0 to B
 pub record Starts (file : List ℕ) (resets : List ℕ) (s : State) : Type 0 where
@@ -35,5 +35,5 @@ pub record Selects (file : List ℕ) (s t : State) (p : Pick) : Type 0 where
 
 -- from the start to the top, step by step
 abbrev pub Computation : List ℕ → Steps → Type 0
-Computation file (begun resets s) = Starts file resets s
+Computation file (begun b resets s) = Starts file resets s
 Computation file (taken steps p s) = Computation file steps × Selects file (top steps) s p

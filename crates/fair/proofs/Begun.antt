@@ -32,15 +32,15 @@ padded (x ∷ xs) k zero d = refl
 padded (x ∷ xs) k (suc j) d = padded xs k j d
 
 module _ (list : List ℕ) (b : ℕ) (resets : List ℕ) where
-  start-priority : (j : ℕ) → priority (started list b resets) j ≡ pos (getD resets j 0)
+  pub start-priority : (j : ℕ) → priority (started list b resets) j ≡ pos (getD resets j 0)
   unfolding started
   start-priority j = padded (map pos resets) (max-stations - stations list) j (pos 0) ∙ List·getD-map pos resets j 0
 
-  start-position : (j : ℕ) → j < stations list → position (started list b resets) j ≡ list-record-at list j .t1
+  pub start-position : (j : ℕ) → j < stations list → position (started list b resets) j ≡ list-record-at list j .t1
   unfolding started
   start-position j l = padded (values _ (stations list)) (max-stations - stations list) j 0 ∙ getD-values _ (stations list) j 0 l
 
-  no-position : (j : ℕ) → stations list ≤ j → position (started list b resets) j ≡ 0
+  pub no-position : (j : ℕ) → stations list ≤ j → position (started list b resets) j ≡ 0
   unfolding started
   no-position j l =
       let e = length-values (λ j. list-record-at list j .t1) (stations list) in

@@ -9,11 +9,13 @@ use lib.IntN.{ℤ}
 use lib.Signed.{leZ}
 use Rattle.rules.specs.State.{priority}
 use Rattle.rules.specs.Ready.{ready}
+use Rattle.rules.specs.Calls.{ruled}
 use Rattle.laws.proofs.Choice.{by-test}
+use Rattle.laws.proofs.Lowest.{lowest-means}
 use Rattle.fair.specs.Fair.{Sch}
 use Rattle.fair.specs.Taken.{NoDeadlock, StepThere}
 use Rattle.fair.proofs.Order.{leZ-refl, leZ-trans, leZ-other}
-use Rattle.fair.proofs.Taken.{lowest-means, step-taken}
+use Rattle.fair.proofs.Taken.{step-taken}
 
 -- what holds below n and at n holds below n + 1
 one-more : (P : ℕ → Type 0) (n : ℕ) → ((j : ℕ) → j < n → P j) → P n → (j : ℕ) → j < suc n → P j
@@ -65,7 +67,7 @@ no-deadlock list s j l r =
     let (i, c) = picked (ready list s) (priority s) (s .n) j l r in
     (i, c .station, c .enabled, lowest-means list s i .1 (c .lowest))
 
-pub step-there : StepThere
+pub step-there : StepThere ruled
 step-there list s log can j l r =
     let (i, c) = picked (ready list s) (priority s) (s .n) j l r in
     (i, step-taken list s log (record { station = i; reset = 0 }) .1 (can, c, zero-le))

@@ -1,5 +1,5 @@
 -- The steps taken are FAIR's, and FAIR allows no other outcome of a pick. Assumes nothing.
-use mathlib.Core.Path.{_≡_, refl, _∙_}
+use mathlib.Core.Path.{_≡_, refl, sym, _∙_}
 use mathlib.Core.Logic.{inl, inr}
 use mathlib.Core.Bool.{Bool, false≢true}
 use mathlib.Core.List.{List}
@@ -13,9 +13,10 @@ use Rattle.rules.specs.Records.{Pick}
 use Rattle.rules.specs.State.{State, priority}
 use Rattle.rules.specs.Ready.{ready}
 use Rattle.rules.specs.Step.{charged, charge, stepped}
+use Rattle.rules.specs.Calls.{ruled}
 use Rattle.laws.proofs.Choice.{by-test}
 use Rattle.fair.specs.Fair.{Update}
-use Rattle.fair.specs.Relation.{StepFair, StepOnly, InvKept}
+use Rattle.fair.specs.Relation.{StepFair, UpdateOnly, InvKept}
 use Rattle.fair.proofs.Order.{low-loses}
 use Rattle.fair.proofs.Invariant.{Falls, inv-kept}
 use Rattle.fair.proofs.Changed.{changed-at}
@@ -39,21 +40,19 @@ module _ (list : List ℕ) (s : State) (p : Pick) (long : s .n ≤ length (s .pr
         stays = λ j l d e. charge-at j l ∙ rw (ne-eqb j (p .station) d, e);
       }
 
-pub step-fair : StepFair
+pub step-fair : StepFair ruled
 step-fair list s log p held h =
     let (can, c, r) = step-taken list s log p .0 h in
     let long : s .n ≤ length (s .priorities) =
     omega (arith, held .priorities, sound-list-means list (can .of-list) .few-stations, sound-means list s .0 (can .of-state) .of-list) in
     rw (step-state list s log p h) (c, updated list s p long (c .station) r)
 
-pub step-only : StepOnly
-step-only list s p z′ long u j l =
-    rw (charge-at list s p long j l)
-    (by-test (eqb j (p .station))
-    (λ e. rw (e, eqb-true j (p .station) e) (u .picked))
-    (λ e. by-test (ready list s j)
-    (λ r. rw (e, r) (u .charged j l (eqb-false j (p .station) e) r))
-    (λ r. rw (e, r) (u .stays j l (eqb-false j (p .station) e) r))))
+pub update-only : UpdateOnly
+update-only n ready b z x y i reset u v j l =
+    by-test (eqb j i)
+    (λ e. rw (eqb-true j i e) (u .picked ∙ sym (v .picked)))
+    (λ e. let other = eqb-false j i e in
+    by-test (ready j) (λ r. u .charged j l other r ∙ sym (v .charged j l other r)) (λ r. u .stays j l other r ∙ sym (v .stays j l other r)))
 
 -- UPDATE lets the numbers fall as the invariant allows
 update-falls : (n : ℕ) (ready : ℕ → Bool) (b : ℕ) (z z′ : ℕ → ℤ) (i reset : ℕ) → Update n ready b z z′ i reset → Falls n ready z z′ i

@@ -1,39 +1,24 @@
 -- Which steps are taken, and what a step answers. Assumes nothing.
 use mathlib.Core.Path.{_≡_, refl, sym, _∙_}
 use mathlib.Core.Logic.{_↔_}
-use mathlib.Core.Bool.{Bool, true, false, not, _||_, false≢true}
+use mathlib.Core.Bool.{false}
 use mathlib.Core.List.{List}
-use Prim.Native.Nat.{ℕ, _+_, _*_, _≤_, _<_}
+use Prim.Native.Nat.{ℕ, _+_, _*_, _≤_}
 use native.Mathlib.Omega.{arith}
 use borrow.Author.Tests.{leb-false, lt-leb, ltb-false, le-ltb, eq-eqb, eqb-false, ne-eqb, not-false}
 use lib.Dec.{eqb}
 use lib.ListN.{length}
-use lib.Signed.{leZ}
 use Rattle.rules.specs.Words.{refusal}
 use Rattle.rules.specs.Names.{max-steps}
 use Rattle.rules.specs.Records.{Pick}
-use Rattle.rules.specs.State.{State, priority}
-use Rattle.rules.specs.Ready.{ready, lowest}
+use Rattle.rules.specs.State.{State}
 use Rattle.rules.specs.Step.{pick-tests, step-tests, Stepped, step, stepped}
-use Rattle.laws.proofs.Choice.{both}
-use Rattle.laws.proofs.Places.{each-at, each-all}
+use Rattle.rules.specs.Calls.{ruled}
+use Rattle.laws.proofs.Lowest.{lowest-means}
 use Rattle.fair.specs.Charged.{Chosen}
-use Rattle.fair.specs.Taken.{StepTaken, InTurn}
+use Rattle.fair.specs.Taken.{StepTaken}
 use Rattle.fair.proofs.Tests.{Silent, unrefused, answer-number}
-use Rattle.fair.proofs.Meaning.{split, sound-means}
-
--- "if the first, then the second", as a test
-implies : (a b : Bool) → ((not a || b) ≡ true) ↔ (a ≡ true → b ≡ true)
-implies true b = (λ h e. h, λ h. h refl)
-implies false b = (λ h e. absurd (false≢true e), λ h. refl)
-
-pub lowest-means : (list : List ℕ) (s : State) (i : ℕ)
-    → (lowest list s i ≡ true) ↔ ((j : ℕ) → j < s .n → ready list s j ≡ true → leZ (priority s i) (priority s j) ≡ true)
-unfolding lowest
-lowest-means list s i = (
-  λ h j l. implies (ready list s j) _ .0 (each-at _ (s .n) h j l),
-  λ h. each-all _ (s .n) (λ j l. implies (ready list s j) _ .1 (h j l)),
-)
+use Rattle.fair.proofs.Meaning.{sound-means}
 
 -- tests 10 to 13 leave the picks that FAIR allows, with a reset of at most B
 pub pick-taken : (list : List ℕ) (s : State) (p : Pick)
@@ -74,7 +59,7 @@ module _ (list : List ℕ) (s : State) (log : List ℕ) (p : Pick) where
   unfolding step
   step-refused h = rw (rw step-number at h)
 
-pub step-taken : StepTaken
+pub step-taken : StepTaken ruled
 step-taken list s log p =
     let number = step-number list s log p in
     let tests = unrefused (step-tests list s log p) refl in (
@@ -102,14 +87,3 @@ step-taken list s log p =
         ),
       ),
     )
-
-pub in-turn-taken : InTurn
-in-turn-taken list s log p can there r = (
-  λ h.
-      let (up, low) = split _ _ h in
-      step-taken list s log p .1
-      (can, record { station = there; enabled = up; lowest = lowest-means list s (p .station) .0 low }, r),
-  λ h.
-      let c = step-taken list s log p .0 h .1 in
-      both (c .enabled) (lowest-means list s (p .station) .1 (c .lowest)),
-)

@@ -2,29 +2,27 @@
 use mathlib.Core.Path.{_≡_}
 use mathlib.Core.Bool.{Bool}
 use mathlib.Core.List.{List}
-use Prim.Native.Nat.{ℕ, _≤_, _<_}
-use lib.ListN.{length}
+use Prim.Native.Nat.{ℕ, _<_}
 use lib.IntN.{ℤ}
 use Rattle.rules.specs.Records.{Pick}
 use Rattle.rules.specs.State.{State, priority}
 use Rattle.rules.specs.Ready.{ready}
-use Rattle.rules.specs.Step.{stepped, step}
+use Rattle.rules.specs.Calls.{Seven}
 use Rattle.fair.specs.Fair.{Sch, Update, Inv}
 use Rattle.fair.specs.Sound.{Held}
 
 -- every step taken is one of FAIR's: its station satisfies SCH, and the numbers before and after satisfy UPDATE
-abbrev pub StepFair : Type 0
-StepFair =
-    (list : List ℕ) (s : State) (log : List ℕ) (p : Pick) → Held s → step list s log p .number ≡ 0
+abbrev pub StepFair : Seven → Type 0
+StepFair bench =
+    (list : List ℕ) (s : State) (log : List ℕ) (p : Pick) → Held s → bench .step list s log p .number ≡ 0
     → Sch (s .n) (ready list s) (priority s) (p .station)
-    × Update (s .n) (ready list s) (s .b) (priority s) (priority (step list s log p .state)) (p .station) (p .reset)
+    × Update (s .n) (ready list s) (s .b) (priority s) (priority (bench .step list s log p .state)) (p .station) (p .reset)
 
--- numbers that satisfy UPDATE with that station and reset are those after the step, station by station
-abbrev pub StepOnly : Type 0
-StepOnly =
-    (list : List ℕ) (s : State) (p : Pick) (z′ : ℕ → ℤ) → s .n ≤ length (s .priorities)
-    → Update (s .n) (ready list s) (s .b) (priority s) z′ (p .station) (p .reset)
-    → (j : ℕ) → j < s .n → z′ j ≡ priority (stepped list s p) j
+-- UPDATE leaves one number to each station
+abbrev pub UpdateOnly : Type 0
+UpdateOnly =
+    (n : ℕ) (ready : ℕ → Bool) (b : ℕ) (z x y : ℕ → ℤ) (i reset : ℕ) → Update n ready b z x i reset → Update n ready b z y i reset
+    → (j : ℕ) → j < n → x j ≡ y j
 
 -- INV "holds in every state … of FAIR": the relation alone keeps it, for every n
 abbrev pub InvKept : Type 0

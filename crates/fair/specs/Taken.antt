@@ -11,8 +11,7 @@ use Rattle.rules.specs.Records.{Pick}
 use Rattle.rules.specs.List.{sound-list}
 use Rattle.rules.specs.State.{State, sound-state}
 use Rattle.rules.specs.Ready.{ready, lowest}
-use Rattle.rules.specs.Step.{step}
-use Rattle.rules.specs.Lights.{in-turn}
+use Rattle.rules.specs.Calls.{Seven}
 use Rattle.fair.specs.Charged.{Chosen}
 
 -- what a step needs whatever its pick: none of 7, 8, 9 and 6 refuses it
@@ -23,10 +22,10 @@ pub record CanStep (list : List ℕ) (s : State) (log : List ℕ) : Type 0 where
   pub room : 2 * (s .n + s .m + 1) ≤ length log
 
 -- a step is taken exactly when it has what every step needs, FAIR lets its station be picked, and its reset is at most B
-abbrev pub StepTaken : Type 0
-StepTaken =
+abbrev pub StepTaken : Seven → Type 0
+StepTaken bench =
     (list : List ℕ) (s : State) (log : List ℕ) (p : Pick)
-    → (step list s log p .number ≡ 0) ↔ (CanStep list s log × Chosen list s (p .station) × (p .reset ≤ s .b))
+    → (bench .step list s log p .number ≡ 0) ↔ (CanStep list s log × Chosen list s (p .station) × (p .reset ≤ s .b))
 
 -- FAIR adds no deadlock: where some station is ready, some ready station has the lowest number
 abbrev pub NoDeadlock : Type 0
@@ -35,13 +34,7 @@ NoDeadlock =
     → (i : ℕ) × (i < s .n) × (ready list s i ≡ true) × (lowest list s i ≡ true)
 
 -- so that some station can then be stepped with reset 0
-abbrev pub StepThere : Type 0
-StepThere =
+abbrev pub StepThere : Seven → Type 0
+StepThere bench =
     (list : List ℕ) (s : State) (log : List ℕ) → CanStep list s log → (j : ℕ) → j < s .n → ready list s j ≡ true
-    → (i : ℕ) × (step list s log (record { station = i; reset = 0 }) .number ≡ 0)
-
--- the lights' "in turn" is FAIR's choice: with a reset of at most B, those are the stations that can be stepped
-abbrev pub InTurn : Type 0
-InTurn =
-    (list : List ℕ) (s : State) (log : List ℕ) (p : Pick) → CanStep list s log → p .station < s .n → p .reset ≤ s .b
-    → (in-turn list s (p .station) ≡ true) ↔ (step list s log p .number ≡ 0)
+    → (i : ℕ) × (bench .step list s log (record { station = i; reset = 0 }) .number ≡ 0)

@@ -1,27 +1,27 @@
--- Undo and lights after any history on which a start stands. Assumes nothing.
-use mathlib.Core.Path.{ap}
+-- Undo after any history on which a start stands. Assumes nothing.
 use mathlib.Core.Logic.{_≢_}
 use mathlib.Core.List.{List}
 use Prim.Native.Nat.{ℕ}
 use native.Mathlib.Omega.{arith}
 use Rattle.rules.specs.Names.{LOG}
-use Rattle.rules.specs.Undo.{Undone}
-use Rattle.rules.specs.Lights.{lights}
-use Rattle.history.specs.History.{Steps, begun, taken, Now, history}
+use Rattle.rules.specs.Calls.{ruled}
+use Rattle.rules.specs.History.{Steps, begun, taken, Now, history}
 use Rattle.history.specs.Back.{below, Back, UndoBelow}
 use Rattle.history.proofs.Stack.{stack-facts}
 use Rattle.history.proofs.Follows.{Follows, undo-answers, history-follows}
 
 not-log : (steps : Steps) → below steps .number ≢ LOG
-not-log (begun resets s) = omega arith
+not-log (begun b resets s) = omega arith
 not-log (taken steps p s) = omega arith
 
-back : (list : List ℕ) (now : Now) (steps : Steps) → Follows list (now .state) (now .log) steps → Back list now steps
+back : (list : List ℕ) (now : Now) (steps : Steps) → Follows list (now .state) (now .log) steps → Back ruled list now steps
 back list now steps f =
     let e = undo-answers list (now .state) (now .log) steps f in
     let facts = stack-facts list (f .made) in
     record {
       last = f .last;
+      stations-are = rw (f .last) (facts .stations-are);
+      b-is = rw (f .last) (facts .b-is);
       counted = rw (f .last) (facts .counted);
       sound = rw (f .last) (facts .sound);
       made = f .made;
@@ -29,9 +29,8 @@ back list now steps f =
       replays = rw (f .last, f .logged) (facts .replays (f .rest));
       undone = e;
       never-log = rw e (not-log steps);
-      lit = ap (λ (u : Undone). lights list (u .state)) e;
     }
 
-pub undo-below : UndoBelow
+pub undo-below : UndoBelow ruled
 undo-below list s log calls steps stands =
-    back list (history list s log calls) steps (history-follows list s log calls steps stands)
+    back list (history ruled list s log calls) steps (history-follows list s log calls steps stands)

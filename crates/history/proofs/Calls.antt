@@ -13,26 +13,27 @@ use Rattle.rules.specs.Step.{stepped, step}
 use Rattle.rules.specs.Run.{steps-from, run-tests, run}
 use Rattle.laws.proofs.Choice.{by-test}
 use Rattle.fair.proofs.Taken.{step-state, step-refused}
-use Rattle.history.specs.History.{CHECK, BUILD, START, STEP, RUN, UNDO, LIGHTS, Now, stepped-on, single-steps, called}
+use Rattle.rules.specs.Calls.{ruled}
+use Rattle.rules.specs.History.{CHECK, BUILD, START, STEP, RUN, UNDO, LIGHTS, Now, stepped-on, single-steps, called}
 use Rattle.history.specs.Calls.{RefusedLeaves, RunSingle}
 use Rattle.history.proofs.Answers.{start-refused, step-leaves, undo-refused}
 
 -- a run is as many single steps as it says
 steps-are-single : (list picks : List ℕ) (i count : ℕ) (now : Now)
     → let a = steps-from list picks i count (now .state) (now .log) in
-    single-steps list picks i (a .steps) now
-    ≡ record { state = a .state; log = a .log; standing = single-steps list picks i (a .steps) now .standing }
+    single-steps ruled list picks i (a .steps) now
+    ≡ record { state = a .state; log = a .log; standing = single-steps ruled list picks i (a .steps) now .standing }
 unfolding steps-from single-steps stepped-on
 steps-are-single list picks i zero now = refl
 steps-are-single list picks i (suc count) now =
     let p = pick-at picks i in
     let a = step list (now .state) (now .log) p in
     by-test (eqb (a .number) 0)
-    (λ y. rw y (steps-are-single list picks (suc i) count (stepped-on list now p)))
+    (λ y. rw y (steps-are-single list picks (suc i) count (stepped-on ruled list now p)))
     (λ y. rw y)
 
 run-is-single : (list : List ℕ) (now : Now) (picks : List ℕ) (most : ℕ)
-    → called list now (RUN picks most) ≡ single-steps list picks 0 (run list (now .state) (now .log) picks most .steps) now
+    → called ruled list now (RUN picks most) ≡ single-steps ruled list picks 0 (run list (now .state) (now .log) picks most .steps) now
 unfolding called run single-steps
 run-is-single list now picks most =
     by-test (eqb (refusal (run-tests list (now .state) picks)) 0)
@@ -62,10 +63,10 @@ run-counted list s log picks most =
     (λ y. rw y (steps-counted list picks 0 (min most (length picks / 2)) s log))
     (λ y. rw y (omega arith))
 
-pub run-single : RunSingle
+pub run-single : RunSingle ruled
 run-single list now picks most = (run-is-single list now picks most, run-counted list (now .state) (now .log) picks most)
 
-pub refused-leaves : RefusedLeaves
+pub refused-leaves : RefusedLeaves ruled
 unfolding called stepped-on single-steps
 refused-leaves list now (CHECK file) refused none = refl
 refused-leaves list now (BUILD file buffer) refused none = refl

@@ -15,7 +15,8 @@ use Rattle.rules.specs.Step.{step}
 use Rattle.rules.specs.Undo.{undo}
 use Rattle.laws.proofs.Choice.{by-test}
 use Rattle.fair.proofs.Taken.{step-refused}
-use Rattle.history.specs.History.{Call, CHECK, BUILD, START, STEP, RUN, UNDO, LIGHTS, Steps, begun, taken, top, spelled, pushed, popped, Now, stepped-on, single-steps, called, calls-from, history}
+use Rattle.rules.specs.Calls.{ruled}
+use Rattle.rules.specs.History.{Call, CHECK, BUILD, START, STEP, RUN, UNDO, LIGHTS, Steps, begun, taken, top, spelled, pushed, popped, Now, stepped-on, single-steps, called, calls-from, history}
 use Rattle.history.specs.Back.{Made, by-start, by-step, below}
 use Rattle.history.proofs.Log.{written-behind}
 use Rattle.history.proofs.Calls.{run-single}
@@ -26,7 +27,7 @@ use Rattle.history.proofs.Undone.{undo-made}
 -- of a state, a log and the steps that stand
 pub record Follows (list : List ℕ) (s : State) (log : List ℕ) (steps : Steps) : Type 0 where
   pub last : s ≡ top steps
-  pub made : Made list steps
+  pub made : Made ruled list steps
   pub rest : List ℕ
   pub logged : log ≡ spelled steps ++ rest
 
@@ -53,7 +54,7 @@ step-follows list s log p h (some steps) f =
       logged = step-left list s log p h ∙ rw (f .last, f .logged, append-assoc) (written-behind (spelled steps) (f .rest) (pick-bytes p) _ at);
     }
 
-stepped-on-follows : (list : List ℕ) (now : Now) (p : Pick) → Follows-now list now → Follows-now list (stepped-on list now p)
+stepped-on-follows : (list : List ℕ) (now : Now) (p : Pick) → Follows-now list now → Follows-now list (stepped-on ruled list now p)
 unfolding stepped-on
 stepped-on-follows list now p f =
     let a = step list (now .state) (now .log) p in
@@ -62,14 +63,14 @@ stepped-on-follows list now p f =
     (λ y. rw (y, step-refused list (now .state) (now .log) p y, step-leaves list (now .state) (now .log) p y) f)
 
 single-steps-follow : (list picks : List ℕ) (i count : ℕ) (now : Now) → Follows-now list now
-    → Follows-now list (single-steps list picks i count now)
+    → Follows-now list (single-steps ruled list picks i count now)
 unfolding single-steps
 single-steps-follow list picks i zero now f = f
 single-steps-follow list picks i (suc count) now f =
-    single-steps-follow list picks (suc i) count (stepped-on list now (pick-at picks i)) (stepped-on-follows list now (pick-at picks i) f)
+    single-steps-follow list picks (suc i) count (stepped-on ruled list now (pick-at picks i)) (stepped-on-follows list now (pick-at picks i) f)
 
 start-follows : (list : List ℕ) (b : ℕ) (resets log : List ℕ) (h : start list b resets log .number ≡ 0)
-    → Follows list (start list b resets log .state) (start list b resets log .log) (begun resets (start list b resets log .state))
+    → Follows list (start list b resets log .state) (start list b resets log .log) (begun b resets (start list b resets log .state))
 unfolding spelled written
 start-follows list b resets log h =
     record {
@@ -83,7 +84,7 @@ start-follows list b resets log h =
 pub undo-answers : (list : List ℕ) (s : State) (log : List ℕ) (steps : Steps) → Follows list s log steps → undo list s log ≡ below steps
 undo-answers list s log steps f = rw (f .last, f .logged) (undo-made list (f .made) (f .rest))
 
-made-below : {list : List ℕ} {steps : Steps} {p : Pick} {s : State} → Made list (taken steps p s) → Made list steps
+made-below : {list : List ℕ} {steps : Steps} {p : Pick} {s : State} → Made ruled list (taken steps p s) → Made ruled list steps
 made-below (by-step p log made h) = made
 
 undo-follows : (list : List ℕ) (s : State) (log : List ℕ) (standing : Option Steps) → Follows-if list s log standing
@@ -91,8 +92,8 @@ undo-follows : (list : List ℕ) (s : State) (log : List ℕ) (standing : Option
     Follows-if list (a .state) log (if eqb (a .number) 0 then popped standing else standing)
 unfolding spelled
 undo-follows list s log none f = by-test (eqb (undo list s log .number) 0) (λ y. rw y tt) (λ y. rw y tt)
-undo-follows list s log (some (begun resets t)) f =
-    rw (undo-answers list s log (begun resets t) f)
+undo-follows list s log (some (begun b resets t)) f =
+    rw (undo-answers list s log (begun b resets t) f)
     (record { last = refl; made = f .made; rest = f .rest; logged = f .logged })
 undo-follows list s log (some (taken steps p t)) f =
     rw (undo-answers list s log (taken steps p t) f)
@@ -103,7 +104,7 @@ undo-follows list s log (some (taken steps p t)) f =
       logged = f .logged ∙ append-assoc (spelled steps) (pick-bytes p) (f .rest);
     })
 
-called-follows : (list : List ℕ) (now : Now) (c : Call) → Follows-now list now → Follows-now list (called list now c)
+called-follows : (list : List ℕ) (now : Now) (c : Call) → Follows-now list now → Follows-now list (called ruled list now c)
 unfolding called
 called-follows list now (CHECK file) f = f
 called-follows list now (BUILD file buffer) f = f
@@ -117,14 +118,14 @@ called-follows list now (RUN picks most) f =
 called-follows list now UNDO f = undo-follows list (now .state) (now .log) (now .standing) f
 called-follows list now LIGHTS f = f
 
-calls-follow : (list : List ℕ) (now : Now) (calls : List Call) → Follows-now list now → Follows-now list (calls-from list now calls)
+calls-follow : (list : List ℕ) (now : Now) (calls : List Call) → Follows-now list now → Follows-now list (calls-from ruled list now calls)
 unfolding calls-from
 calls-follow list now [] f = f
-calls-follow list now (c ∷ calls) f = calls-follow list (called list now c) calls (called-follows list now c f)
+calls-follow list now (c ∷ calls) f = calls-follow list (called ruled list now c) calls (called-follows list now c f)
 
 pub history-follows : (list : List ℕ) (s : State) (log : List ℕ) (calls : List Call) (steps : Steps)
-    → history list s log calls .standing ≡ some steps
-    → Follows list (history list s log calls .state) (history list s log calls .log) steps
+    → history ruled list s log calls .standing ≡ some steps
+    → Follows list (history ruled list s log calls .state) (history ruled list s log calls .log) steps
 history-follows list s log calls steps stands =
-    subst (λ (o : Option Steps). Follows-if list (history list s log calls .state) (history list s log calls .log) o) stands
+    subst (λ (o : Option Steps). Follows-if list (history ruled list s log calls .state) (history ruled list s log calls .log) o) stands
     (calls-follow list (record { state = s; log = log; standing = none }) calls tt)

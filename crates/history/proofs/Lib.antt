@@ -8,4 +8,3 @@ pub mod Undone
 pub mod Follows
 pub mod Back
 pub mod Passed
-pub mod Frauds

@@ -1,16 +1,17 @@
 -- FAIR's two bounds over standing steps. The second is one potential: a station's priority and the times it was passed over since its last
 -- pick are together at most B, and its priority is above -n. Assumes nothing.
-use mathlib.Core.Path.{_≡_}
+use mathlib.Core.Path.{_≡_, refl}
 use mathlib.Core.Bool.{Bool, true, false, true≢false}
 use mathlib.Core.List.{List}
 use Prim.Native.Nat.{ℕ, zero, suc, _+_, _-_, _≤_, _<_}
 use native.Mathlib.Nat.{not-suc-le-zero}
 use native.Mathlib.Omega.{arith}
-use borrow.Author.Tests.{leb-true, leb-false, eqb-true, eqb-false}
+use borrow.Author.Tests.{leb-true, leb-false, eqb-true, eqb-false, ne-eqb}
 use lib.Dec.{eqb}
 use lib.IntN.{ℤ, pos, negsuc, negℤ, predℤ, -ℤ-one}
 use lib.Signed.{leZ}
-use Rattle.rules.specs.Words.{if_then_else_, tally}
+use Rattle.rules.specs.Words.{if_then_else_}
+use Rattle.rules.specs.List.{stations}
 use Rattle.rules.specs.State.{State, priority, few-low}
 use Rattle.rules.specs.Ready.{ready}
 use Rattle.rules.specs.Start.{start}
@@ -21,9 +22,11 @@ use Rattle.fair.proofs.Charge.{above-low}
 use Rattle.fair.proofs.Meaning.{sound-means}
 use Rattle.fair.proofs.Taken.{step-state}
 use Rattle.fair.proofs.Relation.{step-fair}
-use Rattle.history.specs.History.{Steps, top}
+use Rattle.rules.specs.Calls.{ruled}
+use Rattle.rules.specs.History.{Steps, begun, taken, top, start-b}
+use Rattle.rules.specs.Passed.{passed-over, Unpicked}
 use Rattle.history.specs.Back.{Made, by-start, by-step}
-use Rattle.history.specs.Passed.{passed-over, Bounded, Throughout, PassedOver}
+use Rattle.history.specs.Passed.{Lower, whole, under, FewLow, PassedOver}
 use Rattle.history.proofs.Stack.{stack-facts}
 use Rattle.history.proofs.Follows.{history-follows}
 
@@ -62,11 +65,19 @@ module _ (n b : ℕ) (ready : ℕ → Bool) (z z′ : ℕ → ℤ) (i reset : �
       (λ r. rw (e, r, u .charged j l (eqb-false j i e) r, -ℤ-one) (omega (arith, above-pred n (z j) (above-some n (z j) low))))
       (λ r. rw (e, r, u .stays j l (eqb-false j i e) r) h))
 
+-- how often station j was passed over since its last pick, or since the start where it was not picked
+unfoldable passed-since : List ℕ → ℕ → Steps → ℕ
+passed-since list j (begun b resets s) = 0
+passed-since list j (taken steps p s) =
+    if eqb j (p .station) then 0
+    else if ready list (top steps) j then suc (passed-since list j steps)
+    else passed-since list j steps
+
 -- the potential
 module _ (list : List ℕ) (j : ℕ) where
-  potential : {steps : Steps} → Made list steps → j < top steps .n
-      → passed-over list j steps + above (top steps .n) (priority (top steps) j) ≤ top steps .b + top steps .n
-  unfolding passed-over stepped
+  potential : {steps : Steps} → Made ruled list steps → j < top steps .n
+      → passed-since list j steps + above (top steps .n) (priority (top steps) j) ≤ top steps .b + top steps .n
+  unfolding passed-since stepped
   potential (by-start b resets log h) l =
       let s = start list b resets log .state in
       let v = sound-means list s .0 (stack-facts list (by-start b resets log h) .sound) in
@@ -80,26 +91,55 @@ module _ (list : List ℕ) (j : ℕ) where
       let there = rw n at l in
       rw (n, b)
       (turn (s .n) (s .b) (ready list s) (priority s) (priority after) (p .station) (p .reset) (step-fair list s log p (f .held) h .1)
-      j (passed-over list j steps) there (above-low s (sound-means list s .0 (f .sound) .few) j there) (potential made there))
+      j (passed-since list j steps) there (above-low s (sound-means list s .0 (f .sound) .few) j there) (potential made there))
 
-few : (s : State) → ((i : ℕ) → i < s .n → few-low s (suc i) ≡ true) → (k : ℕ) → 1 ≤ k → k ≤ s .n
-    → tally (λ j. leZ (priority s j) (negℤ (pos k))) (s .n) + k ≤ s .n
+-- no stretch without a pick has more than there are since the last pick
+stretch : (list : List ℕ) (j : ℕ) (steps : Steps) (k : ℕ) → Unpicked j steps k → passed-over list j steps k ≤ passed-since list j steps
+unfolding passed-over passed-since
+stretch list j (begun b resets s) zero u = omega arith
+stretch list j (taken steps p s) zero u = omega arith
+stretch list j (begun b resets s) (suc k) u = omega arith
+stretch list j (taken steps p s) (suc k) u =
+    let h = stretch list j steps k (u .1) in
+    by-test (ready list (top steps) j)
+    (λ r. rw (ne-eqb j (p .station) (u .0), r) (omega arith))
+    (λ r. rw (ne-eqb j (p .station) (u .0), r) (omega arith))
+
+few : (list : List ℕ) (s : State) → s .n ≡ stations list → ((i : ℕ) → i < s .n → few-low s (suc i) ≡ true) → FewLow list s
 unfolding few-low
-few s h zero one within = absurd (not-suc-le-zero one)
-few s h (suc i) one within = leb-true _ (s .n) (h i within)
+few list s n h zero one within = absurd (not-suc-le-zero one)
+few list s n h (suc i) one within = rw n at (leb-true _ (s .n) (h i (omega arith)))
 
-bounded : (list : List ℕ) {steps : Steps} → Made list steps → Bounded list steps
-bounded list {steps} made =
+-- what is left of a stack that START and STEP made is one too, with the same start
+made-part : {list : List ℕ} {part steps : Steps} → Lower part steps → Made ruled list steps → (start-b part ≡ start-b steps) × Made ruled list part
+made-part whole made = (refl, made)
+made-part (under part) (by-step p log made h) = made-part part made
+
+low : (list : List ℕ) {steps : Steps} → Made ruled list steps → FewLow list (top steps)
+low list {steps} made =
+    let f = stack-facts list made in
+    few list (top steps) (f .stations-are) (sound-means list (top steps) .0 (f .sound) .few)
+
+passed : (list : List ℕ) {steps : Steps} → Made ruled list steps → (j : ℕ) → j < stations list → (k : ℕ) → Unpicked j steps k
+    → passed-over list j steps k + 1 ≤ start-b steps + stations list
+passed list {steps} made j l k u =
+    let f = stack-facts list made in
     let s = top steps in
-    let sound = sound-means list s .0 (stack-facts list made .sound) in
+    let there : j < s .n = omega (arith, f .stations-are) in
+    omega (
+      arith,
+      f .stations-are,
+      f .b-is,
+      stretch list j steps k u,
+      potential list j made there,
+      above-some (s .n) (priority s j) (above-low s (sound-means list s .0 (f .sound) .few) j there),
+    )
+
+pub passed-over-bound : PassedOver ruled
+passed-over-bound list s log calls steps stands =
+    let f = history-follows list s log calls steps stands in
     record {
-      few-low = few s (sound .few);
-      few-passed = λ j l. omega (arith, potential list j made l, above-some (s .n) (priority s j) (above-low s (sound .few) j l));
+      few-low = rw (f .last) (low list (f .made));
+      few-low-standing = λ part p. low list (made-part p (f .made) .1);
+      few-passed = λ part p j l k u. let m = made-part p (f .made) in rw (← m .0) (passed list (m .1) j l k u);
     }
-
-throughout : (list : List ℕ) {steps : Steps} → Made list steps → Throughout (Bounded list) steps
-throughout list (by-start b resets log h) = bounded list (by-start b resets log h)
-throughout list (by-step p log made h) = (bounded list (by-step p log made h), throughout list made)
-
-pub passed-over-bound : PassedOver
-passed-over-bound list s log calls steps stands = throughout list (history-follows list s log calls steps stands .made)

@@ -20,7 +20,8 @@ use Rattle.fair.proofs.Taken.{pick-taken, step-taken, step-state}
 use Rattle.fair.proofs.Held.{step-held}
 use Rattle.fair.proofs.Kept.{step-sound}
 use Rattle.fair.proofs.Begun.{start-sound}
-use Rattle.history.specs.History.{Steps, begun, taken, top, height, spelled}
+use Rattle.rules.specs.Calls.{ruled}
+use Rattle.rules.specs.History.{Steps, begun, taken, top, start-b, height, spelled}
 use Rattle.history.specs.Back.{Made, by-start, by-step}
 use Rattle.history.proofs.Log.{pick-behind, length-starts, resets-behind, starts-behind}
 use Rattle.history.proofs.Replay.{replay-more}
@@ -31,13 +32,15 @@ pub record Facts (list : List ℕ) (steps : Steps) : Type 0 where
   pub of-list : sound-list list ≡ true
   pub sound : sound-state list (top steps) ≡ true
   pub held : Held (top steps)
+  pub stations-are : top steps .n ≡ stations list
+  pub b-is : top steps .b ≡ start-b steps
   pub counted : top steps .m ≡ height steps
   pub bytes : length (spelled steps) ≡ 2 * (top steps .n + top steps .m)
   pub starts : (rest : List ℕ) → starts-right list (top steps .b) (spelled steps ++ rest) ≡ true
   pub replays : (rest : List ℕ) → replayed list (spelled steps ++ rest) (top steps .b) (suc (top steps .m)) ≡ record { number = 0; state = top steps }
 
 module _ (list : List ℕ) (b : ℕ) (resets log : List ℕ) (h : start list b resets log .number ≡ 0) where
-  start-facts : Facts list (begun resets (start list b resets log .state))
+  start-facts : Facts list (begun b resets (start list b resets log .state))
   unfolding spelled replayed replay started
   start-facts =
       let a = start-taken list b resets log h in
@@ -46,6 +49,8 @@ module _ (list : List ℕ) (b : ℕ) (resets log : List ℕ) (h : start list b r
         of-list = a .of-list;
         sound = s .0;
         held = s .1;
+        stations-are = rw (a .state);
+        b-is = rw (a .state);
         counted = rw (a .state);
         bytes = rw (a .state) (let e = length-starts 0 resets in omega (arith, a .count));
         starts = λ rest. rw (a .state) (starts-behind list resets rest b (a .count) (a .within));
@@ -82,12 +87,14 @@ module _ (list : List ℕ) (steps : Steps) (p : Pick) (log : List ℕ) (f : Fact
         of-list = f .of-list;
         sound = step-sound list s log p (f .sound);
         held = step-held list s log p (f .held);
+        stations-are = rw e (f .stations-are);
+        b-is = rw e (f .b-is);
         counted = rw e (omega (arith, f .counted));
         bytes = rw e (rw length-append (omega (arith, f .bytes)));
         starts = λ rest. rw (e, append-assoc) (f .starts (pick-bytes p ++ rest));
         replays = λ rest. rw (e, append-assoc) (more-replays rest);
       }
 
-pub stack-facts : (list : List ℕ) {steps : Steps} → Made list steps → Facts list steps
+pub stack-facts : (list : List ℕ) {steps : Steps} → Made ruled list steps → Facts list steps
 stack-facts list (by-start b resets log h) = start-facts list b resets log h
 stack-facts list (by-step {steps} p log made h) = step-facts list steps p log (stack-facts list made) h

@@ -15,7 +15,8 @@ use Rattle.rules.specs.State.{State, sound-state}
 use Rattle.rules.specs.Step.{stepped}
 use Rattle.rules.specs.Undo.{starts-right, replayed, undo}
 use Rattle.fair.proofs.Taken.{step-state}
-use Rattle.history.specs.History.{Steps, top, spelled}
+use Rattle.rules.specs.Calls.{ruled}
+use Rattle.rules.specs.History.{Steps, top, spelled}
 use Rattle.history.specs.Back.{Made, by-start, by-step, below}
 use Rattle.history.proofs.Stack.{stack-facts}
 
@@ -30,7 +31,7 @@ module _ (list : List ℕ) (s : State) (log : List ℕ) (h : sound-list list ≡
   undo-taken t some room starts replays =
       rw (h, v, ne-eqb (s .m) 0 (omega arith), le-ltb (length log) (2 * (s .n + s .m)) room, starts, replays)
 
-pub undo-made : (list : List ℕ) {steps : Steps} → Made list steps → (rest : List ℕ)
+pub undo-made : (list : List ℕ) {steps : Steps} → Made ruled list steps → (rest : List ℕ)
     → undo list (top steps) (spelled steps ++ rest) ≡ below steps
 unfolding spelled stepped
 undo-made list (by-start b resets log h) rest =

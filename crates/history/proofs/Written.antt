@@ -15,7 +15,8 @@ use Rattle.rules.specs.Step.{stepped, step}
 use Rattle.rules.specs.Run.{steps-from, run-tests, run}
 use Rattle.laws.proofs.Choice.{by-test}
 use Rattle.fair.proofs.Taken.{step-taken, step-state}
-use Rattle.history.specs.History.{CHECK, BUILD, START, STEP, RUN, UNDO, LIGHTS, stepped-on, called}
+use Rattle.rules.specs.Calls.{ruled}
+use Rattle.rules.specs.History.{CHECK, BUILD, START, STEP, RUN, UNDO, LIGHTS, stepped-on, called}
 use Rattle.history.specs.Written.{Put, LogWritten}
 use Rattle.history.proofs.Log.{written-none, length-written, written-more, length-starts}
 use Rattle.history.proofs.Answers.{start-taken, start-refused, step-left, step-leaves}
@@ -88,7 +89,7 @@ run-put list s log picks most =
     (λ y. rw y (steps-put list picks 0 (min most (length picks / 2)) s log (omega arith)))
     (λ y. rw y (put-none log log _ refl))
 
-pub log-written : LogWritten
+pub log-written : LogWritten ruled
 unfolding called stepped-on
 log-written list now (CHECK file) = put-none _ _ 0 refl
 log-written list now (BUILD file buffer) = put-none _ _ 0 refl

@@ -1,4 +1,4 @@
--- Undo and lights after any history on which a start stands. These are claims, and proofs/Back.antt shows them.
+-- Undo after any history on which a start stands. These are claims, and proofs/Back.antt shows them.
 use mathlib.Core.Path.{_≡_}
 use mathlib.Core.Logic.{_≢_}
 use mathlib.Core.Bool.{true}
@@ -7,41 +7,42 @@ use mathlib.Core.Option.{some}
 use Prim.Native.Nat.{ℕ, suc}
 use Rattle.rules.specs.Names.{EMPTY, LOG}
 use Rattle.rules.specs.Records.{Pick}
+use Rattle.rules.specs.List.{stations}
 use Rattle.rules.specs.State.{State, sound-state}
-use Rattle.rules.specs.Start.{start}
-use Rattle.rules.specs.Step.{step}
-use Rattle.rules.specs.Undo.{Undone, replayed, undo}
-use Rattle.rules.specs.Lights.{lights}
-use Rattle.history.specs.History.{Call, Steps, begun, taken, top, height, spelled, Now, history}
+use Rattle.rules.specs.Undo.{Undone, replayed}
+use Rattle.rules.specs.Calls.{Seven}
+use Rattle.rules.specs.History.{Call, Steps, begun, taken, top, start-b, height, spelled, Now, history}
 
 -- each state on the stack is what START, or STEP from the state below, answered unrefused
-pub data Made (list : List ℕ) : Steps → Type 0 where
-  by-start : (b : ℕ) (resets log : List ℕ) → start list b resets log .number ≡ 0 → Made list (begun resets (start list b resets log .state))
-  by-step : {steps : Steps} (p : Pick) (log : List ℕ) → Made list steps → step list (top steps) log p .number ≡ 0
-      → Made list (taken steps p (step list (top steps) log p .state))
+pub data Made (bench : Seven) (list : List ℕ) : Steps → Type 0 where
+  by-start : (b : ℕ) (resets log : List ℕ) → bench .start list b resets log .number ≡ 0
+      → Made bench list (begun b resets (bench .start list b resets log .state))
+  by-step : {steps : Steps} (p : Pick) (log : List ℕ) → Made bench list steps → bench .step list (top steps) log p .number ≡ 0
+      → Made bench list (taken steps p (bench .step list (top steps) log p .state))
 
 -- what undo has to answer: the state below the top, whole; where there is none, EMPTY and the state given
 abbrev pub below : Steps → Undone
-below (begun resets s) = record { number = EMPTY; state = s }
+below (begun b resets s) = record { number = EMPTY; state = s }
 below (taken steps p s) = record { number = 0; state = top steps }
 
-pub record Back (list : List ℕ) (now : Now) (steps : Steps) : Type 0 where
-  -- the last state answered is the top of the stack; its m counts the steps on the start, and it is sound
+pub record Back (bench : Seven) (list : List ℕ) (now : Now) (steps : Steps) : Type 0 where
+  -- the last state answered is the top of the stack; its n is the list's, its B the start's, its m counts the steps on the start, and it
+  -- is sound
   pub last : now .state ≡ top steps
+  pub stations-are : now .state .n ≡ stations list
+  pub b-is : now .state .b ≡ start-b steps
   pub counted : now .state .m ≡ height steps
   pub sound : sound-state list (now .state) ≡ true
-  pub made : Made list steps
+  pub made : Made bench list steps
   -- the log opens with the records of what stands
   pub logged : (rest : List ℕ) × (now .log ≡ spelled steps ++ rest)
   -- replaying the first n+m records gives the state: undo from one step more would
   pub replays : replayed list (now .log) (now .state .b) (suc (now .state .m)) ≡ record { number = 0; state = now .state }
   -- undo answers the state below, or EMPTY; never LOG
-  pub undone : undo list (now .state) (now .log) ≡ below steps
-  pub never-log : undo list (now .state) (now .log) .number ≢ LOG
-  -- the lights after the undo are those of the state below, worked out afresh
-  pub lit : lights list (undo list (now .state) (now .log) .state) ≡ lights list (below steps .state)
+  pub undone : bench .undo list (now .state) (now .log) ≡ below steps
+  pub never-log : bench .undo list (now .state) (now .log) .number ≢ LOG
 
-abbrev pub UndoBelow : Type 0
-UndoBelow =
+abbrev pub UndoBelow : Seven → Type 0
+UndoBelow bench =
     (list : List ℕ) (s : State) (log : List ℕ) (calls : List Call) (steps : Steps)
-    → history list s log calls .standing ≡ some steps → Back list (history list s log calls) steps
+    → history bench list s log calls .standing ≡ some steps → Back bench list (history bench list s log calls) steps

@@ -1,6 +1,4 @@
-pub mod History
 pub mod Calls
 pub mod Written
 pub mod Back
 pub mod Passed
-pub mod Frauds

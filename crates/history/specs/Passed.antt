@@ -1,41 +1,39 @@
--- FAIR's two bounds, over the standing steps of any history: how many priorities are low, and how often a station is passed over.
--- These are claims, and proofs/Passed.antt shows them.
+-- FAIR's two bounds, after any history on which a start stands: how many priorities are low, and how often a station is passed over. Both
+-- in the list's n, and the second in the B that START was given. These are claims, and proofs/Passed.antt shows them.
 use mathlib.Core.Path.{_≡_}
 use mathlib.Core.List.{List}
 use mathlib.Core.Option.{some}
-use Prim.Native.Nat.{ℕ, suc, _+_, _≤_, _<_}
-use lib.Dec.{eqb}
+use Prim.Native.Nat.{ℕ, _+_, _≤_, _<_}
 use lib.IntN.{pos, negℤ}
 use lib.Signed.{leZ}
-use Rattle.rules.specs.Words.{if_then_else_, tally}
+use Rattle.rules.specs.Words.{tally}
+use Rattle.rules.specs.Records.{Pick}
+use Rattle.rules.specs.List.{stations}
 use Rattle.rules.specs.State.{State, priority}
-use Rattle.rules.specs.Ready.{ready}
-use Rattle.history.specs.History.{Call, Steps, begun, taken, top, history}
+use Rattle.rules.specs.Calls.{Seven}
+use Rattle.rules.specs.History.{Call, Steps, taken, top, start-b, Now, history}
+use Rattle.rules.specs.Passed.{passed-over, Unpicked}
 
--- how often station j was passed over since its last pick, or since the start where it was not picked: the standing steps since in which
--- it was ready, judged before the step, and another station was picked
-unfoldable pub passed-over : List ℕ → ℕ → Steps → ℕ
-passed-over list j (begun resets s) = 0
-passed-over list j (taken steps p s) =
-    if eqb j (p .station) then 0
-    else if ready list (top steps) j then suc (passed-over list j steps)
-    else passed-over list j steps
+-- the stack, and what is left of it when steps are taken off its top
+pub data Lower (part : Steps) : Steps → Type 0 where
+  whole : Lower part part
+  under : {steps : Steps} {p : Pick} {s : State} → Lower part steps → Lower part (taken steps p s)
 
-pub record Bounded (list : List ℕ) (steps : Steps) : Type 0 where
-  -- "for each k from 1 to n at most n-k of them are -k or lower"
-  pub few-low : (k : ℕ) → 1 ≤ k → k ≤ top steps .n
-      → tally (λ j. leZ (priority (top steps) j) (negℤ (pos k))) (top steps .n) + k ≤ top steps .n
-  -- at most B+n-1 times
-  pub few-passed : (j : ℕ) → j < top steps .n → passed-over list j steps + 1 ≤ top steps .b + top steps .n
+-- "for each k from 1 to n at most n-k stations have priority -k or lower"
+abbrev pub FewLow : List ℕ → State → Type 0
+FewLow list s =
+    (k : ℕ) → 1 ≤ k → k ≤ stations list → tally (λ j. leZ (priority s j) (negℤ (pos k))) (stations list) + k ≤ stations list
 
--- at the top of the stack, and at each state below it
-abbrev pub Throughout : (Steps → Type 0) → Steps → Type 0
-Throughout P (begun resets s) = P (begun resets s)
-Throughout P (taken steps p s) = P (taken steps p s) × Throughout P steps
+pub record Bounded (list : List ℕ) (now : Now) (steps : Steps) : Type 0 where
+  -- in the last state answered, and in each that stands
+  pub few-low : FewLow list (now .state)
+  pub few-low-standing : (part : Steps) → Lower part steps → FewLow list (top part)
+  -- at most B+n-1 times in any stretch of the steps that stand in which the station is not picked: so from the start, or from one of its
+  -- picks, to its next pick or to now
+  pub few-passed : (part : Steps) → Lower part steps → (j : ℕ) → j < stations list → (k : ℕ) → Unpicked j part k
+      → passed-over list j part k + 1 ≤ start-b steps + stations list
 
--- the state below a pick of station j ends the stretch that led to it: so the bound holds of every stretch of standing steps from the
--- start, or from a pick of j, to its next pick or to now
-abbrev pub PassedOver : Type 0
-PassedOver =
+abbrev pub PassedOver : Seven → Type 0
+PassedOver bench =
     (list : List ℕ) (s : State) (log : List ℕ) (calls : List Call) (steps : Steps)
-    → history list s log calls .standing ≡ some steps → Throughout (Bounded list) steps
+    → history bench list s log calls .standing ≡ some steps → Bounded list (history bench list s log calls) steps

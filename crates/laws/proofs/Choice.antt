@@ -1,5 +1,5 @@
 -- A choice by a test, and both answers of a test at once. Assumes nothing.
-use mathlib.Core.Path.{_≡_, refl}
+use mathlib.Core.Path.{_≡_, refl, _∙_}
 use mathlib.Core.Bool.{Bool, true, false, _&&_}
 use Rattle.rules.specs.Words.{if_then_else_}
 
@@ -7,6 +7,10 @@ use Rattle.rules.specs.Words.{if_then_else_}
 pub by-test {ℓ} : {X : Type ℓ} (b : Bool) → (b ≡ true → X) → (b ≡ false → X) → X
 by-test true here there = here refl
 by-test false here there = there refl
+
+-- a test holds if, were it to fail, what is true would be false
+pub surely : (test : Bool) → (test ≡ false → false ≡ true) → test ≡ true
+surely test fails = by-test test (λ e. e) (λ e. e ∙ fails e)
 
 module _ {A : Type 0} where
   pub if-yes : {b : Bool} (x y : A) → b ≡ true → (if b then x else y) ≡ x

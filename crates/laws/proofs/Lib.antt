@@ -1,3 +1,4 @@
 pub mod Choice
 pub mod Places
 pub mod Judge
+pub mod Lowest

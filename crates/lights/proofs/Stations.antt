@@ -14,9 +14,9 @@ use Rattle.rules.specs.List.{stations, sound-list}
 use Rattle.rules.specs.State.{State, sound-state}
 use Rattle.rules.specs.Ready.{next-step, ready, waiting, ended}
 use Rattle.rules.specs.Lights.{reads, writes, touches, in-turn, lights}
+use Rattle.laws.proofs.Choice.{surely}
 use Rattle.laws.proofs.Places.{getD-values, values-same}
 use Rattle.touches.specs.Touched.{touched}
-use Rattle.touches.proofs.Inside.{surely}
 use Rattle.touches.proofs.Sound.{touches-so}
 use Rattle.lights.specs.declared.masks.Masks.{Masks}
 use Rattle.lights.specs.View.{refused-by}

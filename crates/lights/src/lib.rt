@@ -1,9 +1,9 @@
 // The lights: which stations are ready, in turn, waiting and ended, and which read and write each variable next, of any list and any state
 // whatever. `answer` has what they answer, `masks` how it is gathered.
 ghost use mathlib.Core.Path.{_≡_};
-ghost use Rattle.rules.specs.Lights as rules;
 ghost use Rattle.run.specs.View.{as-state};
 ghost use Rattle.lights.specs.View.{as-lights, refused-by};
+ghost use Rattle.lights.specs.Promises.{LightsPromise};
 use masks::Masks;
 use record::Record;
 use run::State;
@@ -15,7 +15,7 @@ pub use answer::Lights;
 
 // The lights of a state. Refused, all zeros but the number: LIST where the list is not sound, STATE where the state is not.
 pub fn lights(state: State, list: &[u8]) -> Lights
-    ensures { λ r. ⌜ as-lights r ≡ rules.lights (now (list .entry)) (as-state state) ⌝ }
+    ensures { λ r. ⌜ LightsPromise (now (list .entry)) (as-state state) r ⌝ }
 {
     if !list::sound(list) {
         return refused(Record::LIST);

@@ -23,7 +23,7 @@ use Rattle.layout.proofs.Along.{Along}
 use Rattle.layout.proofs.Standing.{parts-apart}
 use Rattle.meaning.specs.Language.{Program, E, ⟨_∣_⟩⟶*⟨_∣_⟩, assign-rule, sequence-rule, stay, and-then}
 use Rattle.meaning.specs.Rests.{program-of, assignments, stands-for}
-use Rattle.meaning.specs.Demand2.{InitWhole, StartWhole}
+use Rattle.meaning.specs.Claims.{InitWhole, StartWhole}
 use Rattle.meaning.proofs.Bodies.{Spelt}
 use Rattle.meaning.proofs.Stations.{stations-whole}
 use Rattle.meaning.proofs.Placed.{parted, spelt}

@@ -24,7 +24,7 @@ use Rattle.fair.proofs.Meaning.{sound-means}
 use Rattle.fair.proofs.Taken.{step-state, step-taken}
 use Rattle.meaning.specs.Language.{await-end, Program, E, _before_, ⟨_∣_⟩⟶⟨_∣_⟩, ⟨_∣_⟩⟶*⟨_∣_⟩, component, Moves, parallel-rule, Enabled}
 use Rattle.meaning.specs.Rests.{stands-for}
-use Rattle.meaning.specs.Demand2.{Determined, StopEnds, BodyRuns, Standing, SoundStanding, programs, ReadyEnabled, StationMoves, StepMoves, TakenMoves}
+use Rattle.meaning.specs.Claims.{Determined, StopEnds, BodyRuns, Standing, SoundStanding, programs, ReadyEnabled, StationMoves, StepMoves, TakenMoves}
 use Rattle.meaning.proofs.Sequence.{not-empty}
 use Rattle.meaning.proofs.Determined.{determined, one-end, moving-enabled}
 use Rattle.meaning.proofs.Matched.{Matches, at-skip, at-assign, at-if, at-while, at-await, at-stop}

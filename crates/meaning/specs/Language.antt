@@ -13,7 +13,7 @@ infixr 72 _before_
 infixr 70 _⨾_
 infix 20 ⟨_∣_⟩⟶⟨_∣_⟩
 infix 20 ⟨_∣_⟩⟶*⟨_∣_⟩
--- "skip, x := t, if B then S1 else S2 fi, while B do S1 od, await B then S1 end"; a program is the empty program E, or a statement
+-- skip, an assignment, if B then S1 else S2 fi, while B do S1 od, await B then S1 end; a program is the empty program E, or a statement
 -- before a program
 mutual
   pub data Statement : Type 0 where

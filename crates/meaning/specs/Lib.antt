@@ -1,3 +1,3 @@
 pub mod Language
 pub mod Rests
-pub mod Demand2
+pub mod Claims

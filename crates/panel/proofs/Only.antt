@@ -4,14 +4,13 @@ use mathlib.Core.List.{List}
 use Prim.Native.Nat.{ℕ}
 use Rattle.rules.specs.Records.{Pick}
 use Rattle.rules.specs.State as rules-state
-use Rattle.rules.specs.Step as rules
 use Rattle.run.specs.declared.State.{State}
 use Rattle.run.specs.declared.Stepped.{Stepped}
 use Rattle.run.proofs.Only.{step-only}
-use Rattle.panel.specs.View.{as-advanced}
+use Rattle.panel.specs.Promises.{AdvancePromise}
 
 pub advance-only : (list : List ℕ) (given : rules-state.State) (log : List ℕ) (p : Pick) (r s : ℕ) (left found : State) (after later : List ℕ)
-    → as-advanced r left after ≡ rules.step list given log p → as-advanced s found later ≡ rules.step list given log p
+    → AdvancePromise list given log p r left after → AdvancePromise list given log p s found later
     → (r ≡ s) × (left ≡ found) × (after ≡ later)
 advance-only list given log p r s left found after later e f =
     let (answer, logs) = step-only list given log p (record { number = r; state = left }) (record { number = s; state = found }) after later e f in

@@ -10,16 +10,17 @@ use Rattle.rules.specs.Step as rules
 use Rattle.fair.proofs.Taken.{step-refused}
 use Rattle.run.specs.declared.State.{State}
 use Rattle.run.specs.declared.Stepped.{Stepped}
-use Rattle.run.specs.View.{as-state, as-stepped}
-use Rattle.panel.specs.View.{as-advanced}
+use Rattle.run.specs.View.{as-state}
+use Rattle.run.specs.Promises.{StepPromise}
+use Rattle.panel.specs.Promises.{AdvancePromise}
 
 fails : (y : Bool) → Holds (not y) → y ≡ false
 fails true t = absurd t
 fails false t = refl
 
 -- where the number of a step's answer is not 0, the step leaves the state that it was given
-pub stays : (s : State) (list log : List ℕ) (p : Pick) (r : Stepped) (after : List ℕ) → as-stepped r after ≡ rules.step list (as-state s) log p
-    → Holds (not (eqb (r .number) 0)) → as-advanced (r .number) s after ≡ rules.step list (as-state s) log p
+pub stays : (s : State) (list log : List ℕ) (p : Pick) (r : Stepped) (after : List ℕ) → StepPromise list (as-state s) log p r after
+    → Holds (not (eqb (r .number) 0)) → AdvancePromise list (as-state s) log p (r .number) s after
 stays s list log p r after e t =
     let number = ap (λ (a : rules.Stepped). a .number) e in
     let given = step-refused list (as-state s) log p (rw (← number) (fails _ t)) in

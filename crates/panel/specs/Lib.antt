@@ -1,2 +1,3 @@
--- What advancing a lent state leaves, set beside the rules.
+-- What advancing a lent state leaves, set beside the rules, and what is promised of it.
 pub mod View
+pub mod Promises

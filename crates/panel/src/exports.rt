@@ -1,18 +1,11 @@
 // The calls for C, each under a plain name of its own: panel/press.h declares them. What crosses is numbers, slices as a pointer and a
 // length, structs by value, and the state lent as a pointer.
-ghost use mathlib.Core.Path.{_≡_};
-ghost use Rattle.rules.specs.Check.{check};
-ghost use Rattle.rules.specs.Build.{build};
-ghost use Rattle.rules.specs.Start.{start};
-ghost use Rattle.rules.specs.Step.{step};
-ghost use Rattle.rules.specs.Run.{run};
-ghost use Rattle.rules.specs.Undo.{undo};
-ghost use Rattle.rules.specs.Lights.{lights};
-ghost use Rattle.sequence.specs.Answer.{as-answer};
-ghost use Rattle.build.specs.View.{as-built};
-ghost use Rattle.run.specs.View.{as-state, as-started, as-stepped, as-ran, as-undone};
-ghost use Rattle.lights.specs.View.{as-lights};
-ghost use Rattle.panel.specs.View.{as-advanced};
+ghost use Rattle.sequence.specs.Promises.{CheckPromise};
+ghost use Rattle.build.specs.Promises.{BuildPromise};
+ghost use Rattle.run.specs.View.{as-state};
+ghost use Rattle.run.specs.Promises.{StartPromise, StepPromise, RunPromise, UndoPromise};
+ghost use Rattle.lights.specs.Promises.{LightsPromise};
+ghost use Rattle.panel.specs.Promises.{AdvancePromise};
 use crate::advance;
 use build::Built;
 use lights::Lights;
@@ -26,7 +19,7 @@ use sequence::Checked;
 // Checks a written sequence: 0 and place 0, or the first refusal and its place.
 #[no_mangle]
 pub extern "C" fn press_check(file: &[u8]) -> Checked
-    ensures { λ r. ⌜ as-answer r ≡ check (now (file .entry)) ⌝ }
+    ensures { λ r. ⌜ CheckPromise (now (file .entry)) r ⌝ }
 {
     sequence::check(file)
 }
@@ -34,7 +27,7 @@ pub extern "C" fn press_check(file: &[u8]) -> Checked
 // Builds the list of a written sequence into the lent buffer, whose bytes past the list stay. A refusal leaves the buffer as it was.
 #[no_mangle]
 pub extern "C" fn press_build(file: &[u8], list: &mut [u8]) -> Built
-    ensures { λ r. ⌜ as-built r (now (list .exit)) ≡ build (now (file .entry)) (now (list .entry)) ⌝ }
+    ensures { λ r. ⌜ BuildPromise (now (file .entry)) (now (list .entry)) r (now (list .exit)) ⌝ }
 {
     build::build(file, list)
 }
@@ -42,7 +35,7 @@ pub extern "C" fn press_build(file: &[u8], list: &mut [u8]) -> Built
 // The start of a run, with its start records in the log. A refusal answers a state of zeros and leaves the log as it was.
 #[no_mangle]
 pub extern "C" fn press_start(list: &[u8], b: u8, resets: &[u8], log: &mut [u8]) -> Started
-    ensures { λ r. ⌜ as-started r (now (log .exit)) ≡ start (now (list .entry)) b (now (resets .entry)) (now (log .entry)) ⌝ }
+    ensures { λ r. ⌜ StartPromise (now (list .entry)) b (now (resets .entry)) (now (log .entry)) r (now (log .exit)) ⌝ }
 {
     run::start(list, b, resets, log)
 }
@@ -57,7 +50,7 @@ pub extern "C" fn press_step(
     station: u8,
     reset: u8,
 ) -> Stepped
-    ensures { λ r. ⌜ as-stepped r (now (log .exit)) ≡ step (now (list .entry)) (as-state state) (now (log .entry)) (record { station = station; reset = reset }) ⌝ }
+    ensures { λ r. ⌜ StepPromise (now (list .entry)) (as-state state) (now (log .entry)) (record { station = station; reset = reset }) r (now (log .exit)) ⌝ }
 {
     state.step(list, log, station, reset)
 }
@@ -72,7 +65,7 @@ pub extern "C" fn press_advance(
     station: u8,
     reset: u8,
 ) -> u8
-    ensures { λ r. ⌜ as-advanced r (now (state .exit)) (now (log .exit)) ≡ step (now (list .entry)) (as-state (now (state .entry))) (now (log .entry)) (record { station = station; reset = reset }) ⌝ }
+    ensures { λ r. ⌜ AdvancePromise (now (list .entry)) (as-state (now (state .entry))) (now (log .entry)) (record { station = station; reset = reset }) r (now (state .exit)) (now (log .exit)) ⌝ }
 {
     advance(state, list, log, station, reset)
 }
@@ -87,7 +80,7 @@ pub extern "C" fn press_run(
     picks: &[u8],
     most: usize,
 ) -> Ran
-    ensures { λ r. ⌜ as-ran r (now (log .exit)) ≡ run (now (list .entry)) (as-state state) (now (log .entry)) (now (picks .entry)) most ⌝ }
+    ensures { λ r. ⌜ RunPromise (now (list .entry)) (as-state state) (now (log .entry)) (now (picks .entry)) most r (now (log .exit)) ⌝ }
 {
     state.run(list, log, picks, most)
 }
@@ -95,7 +88,7 @@ pub extern "C" fn press_run(
 // The state before the last step, by the log, which stays. A refusal answers the state given.
 #[no_mangle]
 pub extern "C" fn press_undo(state: State, list: &[u8], log: &[u8]) -> Undone
-    ensures { λ r. ⌜ as-undone r ≡ undo (now (list .entry)) (as-state state) (now (log .entry)) ⌝ }
+    ensures { λ r. ⌜ UndoPromise (now (list .entry)) (as-state state) (now (log .entry)) r ⌝ }
 {
     state.undo(list, log)
 }
@@ -104,7 +97,7 @@ pub extern "C" fn press_undo(state: State, list: &[u8], log: &[u8]) -> Undone
 // the number.
 #[no_mangle]
 pub extern "C" fn press_lights(state: State, list: &[u8]) -> Lights
-    ensures { λ r. ⌜ as-lights r ≡ lights (now (list .entry)) (as-state state) ⌝ }
+    ensures { λ r. ⌜ LightsPromise (now (list .entry)) (as-state state) r ⌝ }
 {
     lights::lights(state, list)
 }

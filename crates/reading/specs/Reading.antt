@@ -34,7 +34,7 @@ Some (branch r x y rest) = Unit {0}
 Some (loop r x rest) = Unit {0}
 Some (await r x rest) = Unit {0}
 
--- each statement has a record of its kind, no part is empty, and "a body holds SKIP, SET and IF only, at every depth": true is in a body
+-- each statement has a record of its kind, no part is empty, and "A body holds SKIP, SET and IF only, at every depth": true is in a body
 pub data Proper : Bool → Statements → Type 0 where
   end : {b : Bool} → Proper b nothing
   skips : {b : Bool} {rest : Statements} → Proper b rest → Proper b (skip rest)

@@ -1,14 +1,15 @@
--- "Bench cases": P1 to P12 as one table under a single claim, which the checker computes from the rules. Each row is the input as the
--- document writes it and what the document says comes out of it. Assumes nothing.
+-- "Bench cases": P1 to P12 as one table under a single claim, which the checker computes from the rules. A row is an input and what comes
+-- out of it. Those under a P say what document 01 says; the bytes of the two lists, and the rows marked as ours, follow from its rules.
+-- Assumes nothing.
 use Prim.Native.Nat.{ℕ, _+_, _-_, _*_}
 use mathlib.Core.Path.{_≡_, refl}
-use mathlib.Core.Bool.{Bool, true, _&&_, not}
+use mathlib.Core.Bool.{Bool, true}
 use mathlib.Core.List.{List, [], _∷_, _++_, map}
-use lib.Dec.{eqb}
+use mathlib.Core.Option.{Option, none, some}
 use lib.ListN.{length, take, getD, replicate}
 use lib.IntN.{ℤ, pos, negsuc}
-use Rattle.rules.specs.Words.{if_then_else_, each, first, tally, mask, values, changed, written, judge}
-use Rattle.rules.specs.Names.{LENGTH, FIELD, SHAPE, NOT-READY, TURN, STATION, SKIP, SET, IF, FI, WHILE, OD, AWAIT, END, variables, max-stations, max-list}
+use Rattle.rules.specs.Words.{each, first, tally, mask, values, changed, written, judge}
+use Rattle.rules.specs.Names.{LENGTH, FIELD, SHAPE, NOT-READY, TURN, RESET, STATION, SKIP, SET, IF, ELSE, FI, WHILE, OD, AWAIT, END, variables, max-stations, max-list}
 use Rattle.rules.specs.Records.{record-from, record-at, word-bytes, list-record-at}
 use Rattle.rules.specs.Fields.{rules-of, fields-right}
 use Rattle.rules.specs.Shape.{stride, wrong-at, walked, well-shaped, too-deep-at}
@@ -16,7 +17,7 @@ use Rattle.rules.specs.Check.{check, wrong-length, field-place, station-
 use Rattle.rules.specs.Trees.{parts-of, stations-of, leading-sets, initial-part, size}
 use Rattle.rules.specs.Build.{laid, inits, bodies, list-of, bytes-of, build}
 use Rattle.rules.specs.List.{stations, initials, is-at, init-right, initial-right, outside-targets, inside-targets, later-right, sound-list}
-use Rattle.rules.specs.State.{State, few-low, empty-at, sound-state}
+use Rattle.rules.specs.State.{State, zeros, few-low, empty-at, sound-state}
 use Rattle.rules.specs.Values.{set-value, holds}
 use Rattle.rules.specs.Start.{initial-run, started, start-records, start}
 use Rattle.rules.specs.Ready.{ended, waiting, ready, lowest}
@@ -24,6 +25,9 @@ use Rattle.rules.specs.Step.{body-run, step-vars, step-position, charge,
 use Rattle.rules.specs.Undo.{replay, starts-right, replayed, undo}
 use Rattle.rules.specs.Lights.{reads, writes, led-to, body, some-of, touches, lights}
 use Rattle.rules.specs.Trace.{decimal-digits, priorities-text, line, end-line, taken-pick, picks-text, run-text, start-text, trace}
+use Rattle.rules.specs.Calls.{ruled}
+use Rattle.rules.specs.History.{Call, START, STEP, UNDO, Steps, height, Now, stepped-on, called, calls-from, answered}
+use Rattle.rules.specs.Passed.{passed-over}
 
 infixr 5 _and_
 -- the eight bytes of a record
@@ -38,42 +42,35 @@ plain kind = eight kind 0 0 0 0
 abbrev list-made : List ℕ → List ℕ
 list-made file = let built = build file (replicate (16 * max-list) 0) in take (16 * built .count) (built .buffer)
 
--- a call, and the number and the state that it answers
-data Call : Type 0 where
-  pick : ℕ → ℕ → Call
-  back : Call
+-- a log with room for ten steps, whose bytes are none that a call writes; and a caller with no state yet
+abbrev junk : List ℕ
+junk = replicate 24 7
 
+abbrev fresh : Now
+fresh = record { state = zeros; log = junk; standing = none }
+
+-- what a call answers: its number, and the last state answered after it
 record Answered : Type 0 where
   number : ℕ
   state : State
 
-abbrev call : List ℕ → State → List ℕ → Call → Answered × List ℕ
-call list s log (pick station reset) =
-    let a = step list s log (record { station = station; reset = reset }) in
-    (record { number = a .number; state = a .state }, a .log)
-call list s log back = let a = undo list s log in (record { number = a .number; state = a .state }, log)
+answers : List ℕ → Now → List Call → List Answered
+answers list now [] = []
+answers list now (c ∷ cs) =
+    let after = called ruled list now c in
+    record { number = answered ruled list now c; state = after .state } ∷ answers list after cs
 
--- what each of the calls answers, each given the state and the log that the one before left
-calls : List ℕ → State → List ℕ → List Call → List Answered
-calls list s log [] = []
-calls list s log (c ∷ cs) =
-    let a = call list s log c in
-    a .0 ∷ calls list (a .0 .state) (a .1) cs
+-- how many steps stand, and how often station j was passed over in all of them
+abbrev height-of : Option Steps → ℕ
+height-of none = 0
+height-of (some steps) = height steps
 
--- the same after a start, with what the start answers in front; the log has just the room for ten steps
-played : List ℕ → ℕ → List ℕ → List Call → List Answered
-played file b resets cs =
-    let list = list-made file in
-    let a = start list b resets (replicate (2 * (length resets + 10)) 0) in
-    record { number = a .number; state = a .state } ∷ calls list (a .state) (a .log) cs
+abbrev passed-in : List ℕ → ℕ → Option Steps → ℕ
+passed-in list j none = 0
+passed-in list j (some steps) = passed-over list j steps (height steps)
 
--- the states and calls of a play, as station j sees them: how often it was ready and another was picked
-passed-over : List ℕ → ℕ → List Answered → List Call → ℕ
-passed-over list j [] cs = 0
-passed-over list j (a ∷ later) [] = 0
-passed-over list j (a ∷ later) (back ∷ cs) = passed-over list j later cs
-passed-over list j (a ∷ later) (pick station reset ∷ cs) =
-    (if ready list (a .state) j && not (eqb station j) then 1 else 0) + passed-over list j later cs
+abbrev pick : ℕ → ℕ → Call
+pick station reset = STEP (record { station = station; reset = reset })
 
 -- a state of two stations or one, the zeros left out
 abbrev stands : List ℕ → List ℕ → List ℤ → ℕ → ℕ → State
@@ -87,8 +84,8 @@ stands vars positions priorities b m =
       m = m;
     }
 
-abbrev taken : State → Answered
-taken s = record { number = 0; state = s }
+abbrev goes : State → Answered
+goes s = record { number = 0; state = s }
 
 abbrev refused : ℕ → State → Answered
 refused number s = record { number = number; state = s }
@@ -99,12 +96,16 @@ data Row : Type 0 where
   checks : List ℕ → ℕ → ℕ → Row
   -- eight bytes; whether the record is right
   right : List ℕ → Bool → Row
-  -- a file; the number of records of its list
-  lists : List ℕ → ℕ → Row
-  -- a file, B, the resets, and calls; what the start and each call answer
-  plays : List ℕ → ℕ → List ℕ → List Call → List Answered → Row
-  -- a file, B, the resets, calls and a station; how often it is ready and passed over
-  passes : List ℕ → ℕ → List ℕ → List Call → ℕ → ℕ → Row
+  -- a file, the number of records of its list, and their bytes
+  lists : List ℕ → ℕ → List ℕ → Row
+  -- a file, and calls on its list; what each of them answers
+  plays : List ℕ → List Call → List Answered → Row
+  -- a file, and calls on its list; how many steps stand after them
+  leaves : List ℕ → List Call → ℕ → Row
+  -- a file, calls on its list, and a station; how often it was ready and passed over in the steps that stand after them
+  passes : List ℕ → List Call → ℕ → ℕ → Row
+  -- a file, a start's B and resets, calls after it, and a station; that this was B+n-1 times
+  passes-most : List ℕ → ℕ → List ℕ → List Call → ℕ → Row
   -- a file, B, the resets, and a variable; its read mask and its write mask at the start
   lights-up : List ℕ → ℕ → List ℕ → ℕ → ℕ → ℕ → Row
   -- the three files of the trace program; what it prints
@@ -113,13 +114,17 @@ data Row : Type 0 where
 abbrev Holds : Row → Type 0
 Holds (checks file number place) = check file ≡ record { number = number; place = place }
 Holds (right bytes answer) = fields-right (record-at bytes 0) ≡ answer
-Holds (lists file count) =
-    build file (replicate (16 * count) 7) ≡ record { number = 0; place = 0; count = count; buffer = list-made file }
-Holds (plays file b resets cs answers) = played file b resets cs ≡ answers
-Holds (passes file b resets cs j times) = passed-over (list-made file) j (played file b resets cs) cs ≡ times
+Holds (lists file count bytes) =
+    build file (replicate (16 * count) 7 ++ junk) ≡ record { number = 0; place = 0; count = count; buffer = bytes ++ junk }
+Holds (plays file cs rows) = answers (list-made file) fresh cs ≡ rows
+Holds (leaves file cs count) = height-of (calls-from ruled (list-made file) fresh cs .standing) ≡ count
+Holds (passes file cs j times) = passed-in (list-made file) j (calls-from ruled (list-made file) fresh cs .standing) ≡ times
+Holds (passes-most file b resets cs j) =
+    passed-in (list-made file) j (calls-from ruled (list-made file) fresh (START b resets ∷ cs) .standing) ≡ b + stations (list-made file) - 1
 Holds (lights-up file b resets v read write) =
-    let lit = lights (list-made file) (started (list-made file) b resets) in
-    map (λ (row : List ℕ). getD row v 0) (lit .rows) ≡ read ∷ write ∷ []
+    let begins = start (list-made file) b resets junk in
+    let lit = lights (list-made file) (begins .state) in
+    (begins .number ∷ lit .number ∷ map (λ (row : List ℕ). getD row v 0) (lit .rows)) ≡ 0 ∷ 0 ∷ read ∷ write ∷ []
 Holds (prints program starts picks text) = trace program starts picks ≡ text
 
 -- each row of a table holds
@@ -169,6 +174,9 @@ table =
     -- P2 STATION, SKIP: accepted, list of 3 records
     ∷ checks (plain STATION ++ plain SKIP) 0 0
     ∷ lists (plain STATION ++ plain SKIP) 3
+    ((16 ∷ 0 ∷ 0 ∷ 0 ∷ 0 ∷ 0 ∷ 0 ∷ 0 ∷ 0 ∷ 0 ∷ 1 ∷ 0 ∷ 0 ∷ 0 ∷ 0 ∷ 0 ∷ [])
+    ++ (2 ∷ 0 ∷ 0 ∷ 0 ∷ 0 ∷ 0 ∷ 0 ∷ 0 ∷ 0 ∷ 0 ∷ 2 ∷ 0 ∷ 0 ∷ 0 ∷ 0 ∷ 0 ∷ [])
+    ++ (17 ∷ 0 ∷ 0 ∷ 0 ∷ 0 ∷ 0 ∷ 0 ∷ 0 ∷ 0 ∷ 0 ∷ 0 ∷ 0 ∷ 0 ∷ 0 ∷ 0 ∷ 0 ∷ []))
     -- P3 STATION: SHAPE at 1
     ∷ checks (plain STATION) SHAPE 1
     -- P4 SKIP, STATION, SKIP: SHAPE at 0
@@ -183,25 +191,47 @@ table =
     ∷ checks (eight SET 0 0 4 32) FIELD 0
     ∷ right (eight SET 0 0 4 31) true
     -- P9 zero minus 1 is 4,294,967,295
-    ∷ plays (plain STATION ++ eight SET 0 0 3 1) 0 (0 ∷ []) (pick 0 0 ∷ [])
-    (taken (stands (0 ∷ []) (1 ∷ []) (pos 0 ∷ []) 0 0) ∷ taken (stands (4294967295 ∷ []) (2 ∷ []) (pos 0 ∷ []) 0 1) ∷ [])
+    ∷ plays (plain STATION ++ eight SET 0 0 3 1) (START 0 (0 ∷ []) ∷ pick 0 0 ∷ [])
+    (goes (stands (0 ∷ []) (1 ∷ []) (pos 0 ∷ []) 0 0) ∷ goes (stands (4294967295 ∷ []) (2 ∷ []) (pos 0 ∷ []) 0 1) ∷ [])
     -- P10 … Picks (0,0), (0,0) give priorities 0 and -1; picking 0 is then TURN; pick (1,1) gives -1 and 1
-    ∷ plays pair 1 (0 ∷ 1 ∷ []) (pick 0 0 ∷ pick 0 0 ∷ pick 0 0 ∷ pick 1 1 ∷ [])
-    (taken pair-0 ∷ taken pair-1 ∷ taken pair-2 ∷ refused TURN pair-2 ∷ taken pair-3 ∷ [])
+    ∷ plays pair (START 1 (0 ∷ 1 ∷ []) ∷ pick 0 0 ∷ pick 0 0 ∷ pick 0 0 ∷ pick 1 1 ∷ [])
+    (goes pair-0 ∷ goes pair-1 ∷ goes pair-2 ∷ refused TURN pair-2 ∷ goes pair-3 ∷ [])
     -- Station 1 was passed over twice, which is B+n-1
-    ∷ passes pair 1 (0 ∷ 1 ∷ []) (pick 0 0 ∷ pick 0 0 ∷ pick 1 1 ∷ []) 1 2
-    -- and back: each undo gives back the whole state before the step
-    ∷ plays pair 1 (0 ∷ 1 ∷ []) (pick 0 0 ∷ pick 0 0 ∷ pick 1 1 ∷ back ∷ back ∷ back ∷ [])
-    (taken pair-0 ∷ taken pair-1 ∷ taken pair-2 ∷ taken pair-3 ∷ taken pair-2 ∷ taken pair-1 ∷ taken pair-0 ∷ [])
+    ∷ passes pair (START 1 (0 ∷ 1 ∷ []) ∷ pick 0 0 ∷ pick 0 0 ∷ pick 0 0 ∷ pick 1 1 ∷ []) 1 2
+    ∷ passes-most pair 1 (0 ∷ 1 ∷ []) (pick 0 0 ∷ pick 0 0 ∷ pick 0 0 ∷ pick 1 1 ∷ []) 1
+    -- ours: and back, each undo gives back the whole state before the step
+    ∷ plays pair (START 1 (0 ∷ 1 ∷ []) ∷ pick 0 0 ∷ pick 0 0 ∷ pick 1 1 ∷ UNDO ∷ UNDO ∷ UNDO ∷ [])
+    (goes pair-0 ∷ goes pair-1 ∷ goes pair-2 ∷ goes pair-3 ∷ goes pair-2 ∷ goes pair-1 ∷ goes pair-0 ∷ [])
+    -- ours: a loop that ends a branch. STATION; IF; WHILE; SKIP; OD; ELSE; SKIP; FI: the loop's SKIP leads to its WHILE, and that past the FI
+    ∷ lists (plain STATION ++ plain IF ++ plain WHILE ++ plain SKIP ++ plain OD ++ plain ELSE ++ plain SKIP ++ plain FI) 6
+    ((16 ∷ 0 ∷ 0 ∷ 0 ∷ 0 ∷ 0 ∷ 0 ∷ 0 ∷ 0 ∷ 0 ∷ 1 ∷ 0 ∷ 0 ∷ 0 ∷ 0 ∷ 0 ∷ [])
+    ++ (4 ∷ 0 ∷ 0 ∷ 0 ∷ 0 ∷ 0 ∷ 0 ∷ 0 ∷ 0 ∷ 0 ∷ 2 ∷ 0 ∷ 4 ∷ 0 ∷ 0 ∷ 0 ∷ [])
+    ++ (7 ∷ 0 ∷ 0 ∷ 0 ∷ 0 ∷ 0 ∷ 0 ∷ 0 ∷ 0 ∷ 0 ∷ 3 ∷ 0 ∷ 5 ∷ 0 ∷ 0 ∷ 0 ∷ [])
+    ++ (2 ∷ 0 ∷ 0 ∷ 0 ∷ 0 ∷ 0 ∷ 0 ∷ 0 ∷ 0 ∷ 0 ∷ 2 ∷ 0 ∷ 0 ∷ 0 ∷ 0 ∷ 0 ∷ [])
+    ++ (2 ∷ 0 ∷ 0 ∷ 0 ∷ 0 ∷ 0 ∷ 0 ∷ 0 ∷ 0 ∷ 0 ∷ 5 ∷ 0 ∷ 0 ∷ 0 ∷ 0 ∷ 0 ∷ [])
+    ++ (17 ∷ 0 ∷ 0 ∷ 0 ∷ 0 ∷ 0 ∷ 0 ∷ 0 ∷ 0 ∷ 0 ∷ 0 ∷ 0 ∷ 0 ∷ 0 ∷ 0 ∷ 0 ∷ []))
     -- P11 "Dryer" … List: 7 records
     ∷ lists dryer 7
+    ((16 ∷ 0 ∷ 0 ∷ 0 ∷ 0 ∷ 0 ∷ 0 ∷ 0 ∷ 0 ∷ 0 ∷ 2 ∷ 0 ∷ 0 ∷ 0 ∷ 0 ∷ 0 ∷ [])
+    ++ (16 ∷ 1 ∷ 0 ∷ 0 ∷ 0 ∷ 0 ∷ 0 ∷ 0 ∷ 1 ∷ 0 ∷ 4 ∷ 0 ∷ 0 ∷ 0 ∷ 0 ∷ 0 ∷ [])
+    ++ (3 ∷ 0 ∷ 0 ∷ 0 ∷ 1 ∷ 0 ∷ 0 ∷ 0 ∷ 0 ∷ 0 ∷ 3 ∷ 0 ∷ 0 ∷ 0 ∷ 0 ∷ 0 ∷ [])
+    ++ (17 ∷ 0 ∷ 0 ∷ 0 ∷ 0 ∷ 0 ∷ 0 ∷ 0 ∷ 0 ∷ 0 ∷ 0 ∷ 0 ∷ 0 ∷ 0 ∷ 0 ∷ 0 ∷ [])
+    ++ (9 ∷ 0 ∷ 0 ∷ 0 ∷ 1 ∷ 0 ∷ 0 ∷ 0 ∷ 1 ∷ 0 ∷ 5 ∷ 0 ∷ 6 ∷ 0 ∷ 0 ∷ 0 ∷ [])
+    ++ (3 ∷ 0 ∷ 0 ∷ 2 ∷ 1 ∷ 0 ∷ 0 ∷ 0 ∷ 1 ∷ 1 ∷ 0 ∷ 0 ∷ 0 ∷ 0 ∷ 0 ∷ 0 ∷ [])
+    ++ (17 ∷ 0 ∷ 0 ∷ 0 ∷ 0 ∷ 0 ∷ 0 ∷ 0 ∷ 1 ∷ 0 ∷ 0 ∷ 0 ∷ 0 ∷ 0 ∷ 0 ∷ 0 ∷ []))
     -- With B = 0 and resets 0, 0, picking 1 first is NOT READY
-    ∷ plays dryer 0 (0 ∷ 0 ∷ []) (pick 1 0 ∷ []) (taken dryer-0 ∷ refused NOT-READY dryer-0 ∷ [])
+    ∷ plays dryer (START 0 (0 ∷ 0 ∷ []) ∷ pick 1 0 ∷ []) (goes dryer-0 ∷ refused NOT-READY dryer-0 ∷ [])
     -- At the start variable 0 has read mask 2 and write mask 3
     ∷ lights-up dryer 0 (0 ∷ 0 ∷ []) 0 2 3
+    -- ours: while it waits it is not passed over, though the step releases it
+    ∷ passes dryer (START 0 (0 ∷ 0 ∷ []) ∷ pick 0 0 ∷ []) 1 0
     -- P12 "Dryer": picks 0, 1, then two undos give back the start state
-    ∷ plays dryer 0 (0 ∷ 0 ∷ []) (pick 0 0 ∷ pick 1 0 ∷ back ∷ back ∷ [])
-    (taken dryer-0 ∷ taken dryer-1 ∷ taken dryer-2 ∷ taken dryer-1 ∷ taken dryer-0 ∷ [])
+    ∷ plays dryer (START 0 (0 ∷ 0 ∷ []) ∷ pick 0 0 ∷ pick 1 0 ∷ UNDO ∷ UNDO ∷ [])
+    (goes dryer-0 ∷ goes dryer-1 ∷ goes dryer-2 ∷ goes dryer-1 ∷ goes dryer-0 ∷ [])
+    -- ours: and then none stands
+    ∷ leaves dryer (START 0 (0 ∷ 0 ∷ []) ∷ pick 0 0 ∷ pick 1 0 ∷ UNDO ∷ UNDO ∷ []) 0
+    -- ours: "A refused start's zeros don't count as a state answered"
+    ∷ plays dryer (START 0 (0 ∷ 0 ∷ []) ∷ pick 0 0 ∷ START 0 [] ∷ []) (goes dryer-0 ∷ goes dryer-1 ∷ refused RESET dryer-1 ∷ [])
     -- "Dryer" with picks (0,0) (1,0) (255,0) (255,0) prints: 0 1 1 0 0; 1 2 2 0 0; 2 0 0 0 0; 1 2 2 0 0; 0 1 1 0 0; end 0
     ∷ prints dryer (0 ∷ 0 ∷ 0 ∷ []) (0 ∷ 0 ∷ 1 ∷ 0 ∷ 255 ∷ 0 ∷ 255 ∷ 0 ∷ [])
     ((48 ∷ 32 ∷ 49 ∷ 32 ∷ 49 ∷ 32 ∷ 48 ∷ 32 ∷ 48 ∷ 10 ∷ [])
@@ -212,8 +242,8 @@ table =
     ++ (101 ∷ 110 ∷ 100 ∷ 32 ∷ 48 ∷ 10 ∷ []))
     ∷ []
 
-bench : Every table
-unfolding each first tally mask values changed written judge record-from list-record-at rules-of fields-right stride wrong-at walked well-shaped too-deep-at check wrong-length field-place station-count depth-place parts-of stations-of leading-sets initial-part size laid inits bodies list-of bytes-of build stations initials is-at init-right initial-right outside-targets inside-targets later-right sound-list few-low empty-at sound-state set-value holds initial-run started start-records start ended waiting ready lowest body-run step-vars step-position charge stepped step replay starts-right replayed undo reads writes led-to body some-of touches lights decimal-digits priorities-text line end-line taken-pick picks-text run-text start-text trace calls played passed-over
-bench =
+all-hold : Every table
+unfolding each first tally mask values changed written judge record-from list-record-at rules-of fields-right stride wrong-at walked well-shaped too-deep-at check wrong-length field-place station-count depth-place parts-of stations-of leading-sets initial-part size laid inits bodies list-of bytes-of build stations initials is-at init-right initial-right outside-targets inside-targets later-right sound-list few-low empty-at sound-state set-value holds initial-run started start-records start ended waiting ready lowest body-run step-vars step-position charge stepped step replay starts-right replayed undo reads writes led-to body some-of touches lights decimal-digits priorities-text line end-line taken-pick picks-text run-text start-text trace stepped-on called calls-from answers passed-over
+all-hold =
     refl and refl and refl and refl and refl and refl and refl and refl and refl and refl
-    and refl and refl and refl and refl and refl and refl and refl and refl and refl and done
+    and refl and refl and refl and refl and refl and refl and refl and refl and refl and refl and refl and refl and refl and refl and done

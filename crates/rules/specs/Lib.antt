@@ -17,4 +17,7 @@ pub mod Run
 pub mod Undo
 pub mod Lights
 pub mod Trace
+pub mod Calls
+pub mod History
+pub mod Passed
 pub mod Bench

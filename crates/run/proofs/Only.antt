@@ -13,7 +13,7 @@ use Rattle.run.specs.declared.Started.{Started}
 use Rattle.run.specs.declared.Stepped.{Stepped}
 use Rattle.run.specs.declared.Ran.{Ran}
 use Rattle.run.specs.declared.Undone.{Undone}
-use Rattle.run.specs.View.{as-started, as-stepped, as-ran, as-undone}
+use Rattle.run.specs.Promises.{StartPromise, StepPromise, RunPromise, UndoPromise}
 
 -- the state that the rules' state is the view of
 abbrev of-state : rules-state.State → State
@@ -28,24 +28,24 @@ of-state s =
     }
 
 pub start-only : (list : List ℕ) (b : ℕ) (resets log : List ℕ) (r s : Started) (after later : List ℕ)
-    → as-started r after ≡ rules-start.start list b resets log → as-started s later ≡ rules-start.start list b resets log → (r ≡ s) × (after ≡ later)
+    → StartPromise list b resets log r after → StartPromise list b resets log s later → (r ≡ s) × (after ≡ later)
 start-only list b resets log r s after later e f =
     let g = e ∙ sym f in
     (ap (λ (a : rules-start.Started). record { number = a .number; state = of-state (a .state) }) g, ap (λ (a : rules-start.Started). a .log) g)
 
 pub step-only : (list : List ℕ) (given : rules-state.State) (log : List ℕ) (p : Pick) (r s : Stepped) (after later : List ℕ)
-    → as-stepped r after ≡ rules-step.step list given log p → as-stepped s later ≡ rules-step.step list given log p → (r ≡ s) × (after ≡ later)
+    → StepPromise list given log p r after → StepPromise list given log p s later → (r ≡ s) × (after ≡ later)
 step-only list given log p r s after later e f =
     let g = e ∙ sym f in
     (ap (λ (a : rules-step.Stepped). record { number = a .number; state = of-state (a .state) }) g, ap (λ (a : rules-step.Stepped). a .log) g)
 
 pub run-only : (list : List ℕ) (given : rules-state.State) (log picks : List ℕ) (most : ℕ) (r s : Ran) (after later : List ℕ)
-    → as-ran r after ≡ rules-run.run list given log picks most → as-ran s later ≡ rules-run.run list given log picks most → (r ≡ s) × (after ≡ later)
+    → RunPromise list given log picks most r after → RunPromise list given log picks most s later → (r ≡ s) × (after ≡ later)
 run-only list given log picks most r s after later e f =
     let g = e ∙ sym f in
     (ap (λ (a : rules-run.Ran). record { number = a .number; state = of-state (a .state); steps = a .steps }) g, ap (λ (a : rules-run.Ran). a .log) g)
 
 pub undo-only : (list : List ℕ) (given : rules-state.State) (log : List ℕ) (r s : Undone)
-    → as-undone r ≡ rules-undo.undo list given log → as-undone s ≡ rules-undo.undo list given log → r ≡ s
+    → UndoPromise list given log r → UndoPromise list given log s → r ≡ s
 undo-only list given log r s e f =
     ap (λ (a : rules-undo.Undone). record { number = a .number; state = of-state (a .state) }) (e ∙ sym f)

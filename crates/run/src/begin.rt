@@ -11,8 +11,9 @@ ghost use Rattle.rules.specs.Names.{max-stations};
 ghost use Rattle.rules.specs.Records.{list-record-at, pick-at};
 ghost use Rattle.rules.specs.List.{stations, sound-list};
 ghost use Rattle.rules.specs.State.{zeros};
-ghost use Rattle.rules.specs.Start.{started, start-records, start};
-ghost use Rattle.run.specs.View.{as-state, as-started};
+ghost use Rattle.rules.specs.Start.{started, start-records};
+ghost use Rattle.run.specs.View.{as-state};
+ghost use Rattle.run.specs.Promises.{StartPromise};
 use crate::Started;
 use crate::State;
 use record::ListRecord;
@@ -21,7 +22,7 @@ use record::Record;
 // The start of a run, with a reset for each station and b the largest reset from then on. It writes a start record for each station to the
 // log; a refusal answers a state of zeros and writes nothing.
 pub fn start(list: &[u8], b: u8, resets: &[u8], log: &mut [u8]) -> Started
-    ensures { λ r. ⌜ as-started r (now (log .exit)) ≡ start (now (list .entry)) b (now (resets .entry)) (now (log .entry)) ⌝ }
+    ensures { λ r. ⌜ StartPromise (now (list .entry)) b (now (resets .entry)) (now (log .entry)) r (now (log .exit)) ⌝ }
 {
     if !list::sound(list) {
         return refused(Record::LIST);

@@ -5,8 +5,9 @@ ghost use Prim.Native.Nat.{_*_, _≤_, min};
 ghost use lib.ListN.{length};
 ghost use Rattle.rules.specs.List.{sound-list};
 ghost use Rattle.rules.specs.State.{sound-state};
-ghost use Rattle.rules.specs.Run.{steps-from, run};
+ghost use Rattle.rules.specs.Run.{steps-from};
 ghost use Rattle.run.specs.View.{as-state, as-ran};
+ghost use Rattle.run.specs.Promises.{RunPromise};
 use crate::Ran;
 use crate::State;
 use record::Record;
@@ -25,7 +26,7 @@ impl State {
     // The steps of the picks, two bytes each, until one is refused, the picks end or the most-steps number is reached. The list and the
     // state are tested once.
     pub fn run(self, list: &[u8], log: &mut [u8], picks: &[u8], most: usize) -> Ran
-        ensures { λ r. ⌜ as-ran r (now (log .exit)) ≡ run (now (list .entry)) (as-state self) (now (log .entry)) (now (picks .entry)) most ⌝ }
+        ensures { λ r. ⌜ RunPromise (now (list .entry)) (as-state self) (now (log .entry)) (now (picks .entry)) most r (now (log .exit)) ⌝ }
     {
         if picks.len() % 2 == 1 {
             return Ran {

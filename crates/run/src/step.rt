@@ -8,9 +8,10 @@ ghost use Rattle.rules.specs.Names.{NOT-READY, TURN, RESET, max-stations};
 ghost use Rattle.rules.specs.List.{sound-list};
 ghost use Rattle.rules.specs.State.{sound-state};
 ghost use Rattle.rules.specs.Ready.{ready};
-ghost use Rattle.rules.specs.Step.{stepped, step};
+ghost use Rattle.rules.specs.Step.{stepped};
 ghost use Rattle.run.specs.Picked.{Going, picked};
-ghost use Rattle.run.specs.View.{as-state, as-picked, as-stepped};
+ghost use Rattle.run.specs.View.{as-state, as-picked};
+ghost use Rattle.run.specs.Promises.{StepPromise};
 use crate::MAX_STEPS;
 use crate::State;
 use crate::Stepped;
@@ -37,7 +38,7 @@ fn pick_refusal(ready: bool, lowest: bool, above: bool) -> u8
 impl State {
     // One step, by the pick of a station and its reset. A step taken writes its record to the log; a refusal writes nothing.
     pub fn step(self, list: &[u8], log: &mut [u8], station: u8, reset: u8) -> Stepped
-        ensures { λ r. ⌜ as-stepped r (now (log .exit)) ≡ step (now (list .entry)) (as-state self) (now (log .entry)) (record { station = station; reset = reset }) ⌝ }
+        ensures { λ r. ⌜ StepPromise (now (list .entry)) (as-state self) (now (log .entry)) (record { station = station; reset = reset }) r (now (log .exit)) ⌝ }
     {
         if !list::sound(list) {
             return Stepped {
@@ -57,7 +58,7 @@ impl State {
     // One step, on a list and a state that are sound.
     pub(crate) fn advance(self, list: &[u8], log: &mut [u8], station: u8, reset: u8) -> Stepped
         requires { ⌜ (sound-list (now list) ≡ true) × (sound-state (now list) (as-state self) ≡ true) ⌝ }
-        ensures { λ r. ⌜ as-stepped r (now (log .exit)) ≡ step (now (list .entry)) (as-state self) (now (log .entry)) (record { station = station; reset = reset }) ⌝ }
+        ensures { λ r. ⌜ StepPromise (now (list .entry)) (as-state self) (now (log .entry)) (record { station = station; reset = reset }) r (now (log .exit)) ⌝ }
     {
         if self.m == MAX_STEPS {
             return Stepped {

@@ -9,9 +9,10 @@ ghost use Rattle.rules.specs.Names.{max-steps};
 ghost use Rattle.rules.specs.Records.{pick-at};
 ghost use Rattle.rules.specs.List.{sound-list};
 ghost use Rattle.rules.specs.State.{sound-state};
-ghost use Rattle.rules.specs.Undo.{replay, undo};
+ghost use Rattle.rules.specs.Undo.{replay};
 ghost use Rattle.run.specs.Picked.{before-replay};
 ghost use Rattle.run.specs.View.{as-state, as-undone};
+ghost use Rattle.run.specs.Promises.{UndoPromise};
 use crate::State;
 use crate::Undone;
 use crate::begin;
@@ -39,7 +40,7 @@ fn starts_right(log: &[u8], n: usize, b: u8) -> bool
 impl State {
     // The state before the last step, made anew from the log. The log stays.
     pub fn undo(self, list: &[u8], log: &[u8]) -> Undone
-        ensures { λ r. ⌜ as-undone r ≡ undo (now (list .entry)) (as-state self) (now (log .entry)) ⌝ }
+        ensures { λ r. ⌜ UndoPromise (now (list .entry)) (as-state self) (now (log .entry)) r ⌝ }
     {
         let number = self.undo_refusal(list, log);
         if number != 0 {

@@ -2,8 +2,8 @@
 // `shape` reads the parts of the file, `depth` counts what is open.
 ghost use mathlib.Core.Path.{_≡_};
 ghost use Rattle.rules.specs.Check.{wrong-length, field-place, station-count};
-ghost use Rattle.rules.specs.Check.{check as checked};
 ghost use Rattle.sequence.specs.Answer.{answer, as-answer, wrong-count};
+ghost use Rattle.sequence.specs.Promises.{CheckPromise};
 use depth::depth_place;
 use record::Record;
 use shape::Shape;
@@ -35,7 +35,7 @@ impl Checked {
 
 // Checks a file. The first test that refuses gives the number and the place; an accepted sequence answers 0 and place 0.
 pub fn check(file: &[u8]) -> Checked
-    ensures { λ r. ⌜ as-answer r ≡ checked (now (file .entry)) ⌝ }
+    ensures { λ r. ⌜ CheckPromise (now (file .entry)) r ⌝ }
 {
     if wrong_length(file) {
         return Checked::new(Record::LENGTH, 0);

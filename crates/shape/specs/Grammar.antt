@@ -11,7 +11,7 @@ pub data Sort : Type 0 where
 
 pub data Shaped : Sort → List ℕ → Type 0 where
   -- "A statement is SKIP, SET, IF statements ELSE statements FI, WHILE statements OD, or AWAIT body END", and
-  -- "a body holds SKIP, SET and IF only, at every depth"
+  -- "A body holds SKIP, SET and IF only, at every depth"
   skip : {b : Bool} → Shaped (statement b) (SKIP ∷ [])
   set : {b : Bool} → Shaped (statement b) (SET ∷ [])
   branch : {b : Bool} {x y : List ℕ} → Shaped (statements b) x → Shaped (statements b) y

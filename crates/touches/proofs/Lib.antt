@@ -1,5 +1,3 @@
 pub mod Variables
 pub mod Walk
-pub mod Inside
-pub mod Bodies
 pub mod Sound

@@ -10,8 +10,8 @@ use Rattle.rules.specs.List.{sound-list}
 use Rattle.rules.specs.State.{State}
 use Rattle.rules.specs.Ready.{next-step}
 use Rattle.rules.specs.Lights.{body, touches}
+use Rattle.lit.proofs.Inside.{short}
 use Rattle.touches.specs.Touched.{body-within, touched}
-use Rattle.touches.proofs.Inside.{short}
 
 -- a list that is not too long is searched to its end
 pub body-whole : (list : List ℕ) (t1 : ℕ) → list-count list ≤ max-list → body-within list t1 ≡ body list t1

@@ -1,3 +1,2 @@
--- What a step touches, and the body of an AWAIT as what is reached.
+-- What a step touches.
 pub mod Touched
-pub mod Reached

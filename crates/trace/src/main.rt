@@ -15,7 +15,7 @@ const MAX_LIST: usize = 16512;
 
 const MAX_LOG: usize = 8208;
 
-// Reads a file to its end or until the buffer is full, and answers how many bytes came. One that cannot be opened or read counts as empty.
+// Reads a file until the buffer is full, it ends or a read fails, and answers how many bytes came. One that cannot be opened counts as empty.
 fn read(path: &[u8], buffer: &mut [u8]) -> usize
     ensures { λ r. ⌜ Counts r (now (buffer .exit)) ⌝ }
 {

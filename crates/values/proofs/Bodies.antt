@@ -1,8 +1,8 @@
 -- On a sound list a body ends, and running it is what its records say: the list's count of records cuts no body short. The theorem
 -- stands at the end. Assumes nothing.
-use mathlib.Core.Path.{_≡_, refl, _∙_}
+use mathlib.Core.Path.{_≡_, refl}
 use mathlib.Core.Logic.{_⊎_, inl, inr, ⊎-elim, _↔_}
-use mathlib.Core.Bool.{Bool, true, false, and-false}
+use mathlib.Core.Bool.{Bool, true, and-false}
 use mathlib.Core.List.{List, [], _∷_}
 use Prim.Native.Nat.{ℕ, zero, suc, _+_, _-_, _≤_, _<_}
 use native.Mathlib.Omega.{arith}
@@ -14,7 +14,7 @@ use Rattle.rules.specs.Records.{list-record-at, list-count}
 use Rattle.rules.specs.List.{stations, later, is-at, inside, inside-target, inside-targets, later-right, sound-list}
 use Rattle.rules.specs.Values.{holds}
 use Rattle.rules.specs.Step.{vars-after, target-after, body-run}
-use Rattle.laws.proofs.Choice.{by-test}
+use Rattle.laws.proofs.Choice.{by-test, surely}
 use Rattle.laws.proofs.Places.{each-at}
 use Rattle.values.specs.Body.{Ends, leaves, runs}
 use Rattle.values.proofs.Turns.{body-leaves, body-goes}
@@ -25,10 +25,6 @@ one-end list leaves leaves = refl
 one-end list leaves (runs n d) = absurd (n refl)
 one-end list (runs n d) leaves = absurd (n refl)
 one-end list (runs n d) (runs m e) = one-end list d e
-
--- a test holds if, were it to fail, what is true would be false
-surely : (test : Bool) → (test ≡ false → false ≡ true) → test ≡ true
-surely test fails = by-test test (λ e. e) (λ e. e ∙ fails e)
 
 -- a sound list has a station, and each of its later records is right
 has-station : (list : List ℕ) → sound-list list ≡ true → 0 < stations list

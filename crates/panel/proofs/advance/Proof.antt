@@ -42,10 +42,11 @@ use denote.Triple.Clauses.{ensured, lasts}
 use denote.Triple.Table.{entered, cited}
 use denote.Triple.Walked.{says, Stays, stay-ref, stay-dropped, gave-slice, walkOf, AllGo, goes-ref, goes-dropped, goes-gave-slice, Walks, ends-at, walked, walk-meets}
 use denote.Exit.{yes}
-use Rattle.rules.specs.Step as rules
+use Rattle.rules.specs.Records.{Pick}
 use Rattle.run.specs.declared.State.{State}
 use Rattle.run.specs.declared.Stepped.{Stepped}
-use Rattle.run.specs.View.{as-state, as-stepped}
+use Rattle.run.specs.View.{as-state}
+use Rattle.run.specs.Promises.{StepPromise}
 use Rattle.run.proofs.State as T
 use Rattle.run.proofs.State.Laws as T′
 use Rattle.run.proofs.Stepped as S
@@ -54,7 +55,7 @@ use Rattle.run.proofs.State.step as step
 use Rattle.run.proofs.State.step.Symbol as step-def
 use Rattle.run.proofs.State.step.Symbol.{name as #step}
 use Rattle.run.proofs.State.step.Met as step-thm
-use Rattle.panel.specs.View.{as-advanced}
+use Rattle.panel.specs.Promises.{AdvancePromise}
 use Rattle.panel.proofs.Refused.{stays}
 use Rattle.panel.proofs.advance.Key.{name as #advance}
 use Rattle.panel.proofs.advance as f
@@ -108,16 +109,16 @@ module _ {M : Type 1} (𝓤 : URA M) (H : Heap 𝓤) (A : Atoms 𝓤) (W : Given
   asked : ent 𝓤 (onEntry 𝓤 H A step.signature (κₗ, (κₘ, tt)) (qₗ, (qₘ, tt)) (given, a .1) (vals given, rest)) (Step 𝓤 H A at-mem run .pre to)
   asked = qed W (toks ∷ ‵ (owns (T.the-row ∷ ShrSlice (named 0) κₗ u8 ∷ MutSlice (named 1) κₘ u8 ∷ u8 ∷ u8 ∷ []) (given, a .1) (vals given, rest)) ∷ []) ∵ join ! $ frame ! $ done !
 
-  -- what the rules answer
-  abbrev answer : rules.Stepped
-  answer = rules.step (list .now) (as-state given) (log .now) (record { station = station; reset = reset })
+  abbrev p : Pick
+  p = record { station = station; reset = reset }
 
   -- what `step` says
   abbrev Said : Stepped → List ℕ → Type 0
-  Said r after = as-stepped r after ≡ answer
+  Said r after = StepPromise (list .now) (as-state given) (log .now) p r after
 
   -- the function ends with a state left behind the reference
-  exits : (r : Stepped) (left : State) (after : List ℕ) → as-advanced (r .number) left after ≡ answer → length after ≡ length (log .now) → r .number < 2 ^ 8
+  exits : (r : Stepped) (left : State) (after : List ℕ) → AdvancePromise (list .now) (as-state given) (log .now) p (r .number) left after → length after ≡ length (log .now)
+      → r .number < 2 ^ 8
       → ent 𝓤 (⋆ 𝓤 H A (‵ (fobs γ (T.the-row .coded .code left)) ∷ ‵ (fbor κ (Body (mem T.the-row) b o γ)) ∷ ‵ (flft κ q) ∷ toks ∷ ‵ (finally u8 (log .name) after) ∷ [])) (Post (vint w8 (r .number)))
   exits r left after e l fits =
       qed W (‵ (fobs γ (T.the-row .coded .code left)) ∷ ‵ (fbor κ (Body (mem T.the-row) b o γ)) ∷ ‵ (flft κ q) ∷ toks ∷ ‵ (finally u8 (log .name) after) ∷ []) ∵
@@ -175,7 +176,7 @@ module _ {M : Type 1} (𝓤 : URA M) (H : Heap 𝓤) (A : Atoms 𝓤) (W : Given
         returns ! (look ! 26 refl) $ forget ! 6 refl $ forget ! 8 refl $ forget ! 10 refl $ forget ! 12 refl $ forget ! 14 refl $ forget ! 16 refl $ forget ! 18 refl $ forget ! 20 refl $ forget ! 22 refl $ forget ! 24 refl $ forget ! 26 refl $
         move ! (26 ∷ 27 ∷ []) $ free1 ! $ move ! (24 ∷ 25 ∷ []) $ free1 ! $ move ! (22 ∷ 23 ∷ []) $ free1 ! $ move ! (20 ∷ 21 ∷ []) $ free1 ! $ move ! (18 ∷ 19 ∷ []) $ free1 ! $ move ! (16 ∷ 17 ∷ []) $ free1 ! $
         move ! (14 ∷ 15 ∷ []) $ free1 ! $ move ! (12 ∷ 13 ∷ []) $ free1 ! $ move ! (10 ∷ 11 ∷ []) $ free1 ! $ move ! (8 ∷ 9 ∷ []) $ free1 ! $ move ! (6 ∷ 7 ∷ []) $ free1 ! $ free0 ! $
-        keep ! (0 ∷ 1 ∷ 2 ∷ 3 ∷ 4 ∷ []) $ by ! (exits r given (ends .1 .1 .0) (stays given (list .now) (log .now) (record { station = station; reset = reset }) r (ends .1 .1 .0) e t) l (number-fits r _ is))))))))))))))))))))))
+        keep ! (0 ∷ 1 ∷ 2 ∷ 3 ∷ 4 ∷ []) $ by ! (exits r given (ends .1 .1 .0) (stays given (list .now) (log .now) p r (ends .1 .1 .0) e t) l (number-fits r _ is))))))))))))))))))))))
 
 module _ {M : Type 1} (𝓤 : URA M) (H : Heap 𝓤) (A : Atoms 𝓤) (W : Given 𝓤 H A) (at-mem : Memory → SProp 𝓤) (run : Routine → Fun 𝓤) where
   advance-walks : (C : Calls 𝓤 H) (Λ : Loops 𝓤 H) → FmC 𝓤 H (W .laws) C → Triple 𝓤 (C #step) (Step 𝓤 H A at-mem run) → Walks 𝓤 H A f.ended stayed (WpFn 𝓤 H C Λ code.function) (f.clauses 𝓤 H A at-mem run)

@@ -38,11 +38,10 @@ use denote.Triple.Clauses.{ensured, lasts}
 use denote.Triple.Table.{entered, cited}
 use denote.Triple.Walked.{says, Stays, gave-ref, stay-dropped, gave-slice, walkOf, AllGo, goes-gave-ref, goes-dropped, goes-gave-slice, Walks, ends-at, walked, walk-meets}
 use denote.Exit.{yes}
-use Rattle.rules.specs.Step as rules
 use Rattle.run.specs.declared.State.{State}
 use Rattle.run.specs.View.{as-state}
 use Rattle.run.proofs.State as T
-use Rattle.panel.specs.View.{as-advanced}
+use Rattle.panel.specs.Promises.{AdvancePromise}
 use Rattle.panel.proofs.advance as advance
 use Rattle.panel.proofs.advance.Symbol as advance-def
 use Rattle.panel.proofs.advance.Symbol.{name as #advance}
@@ -90,7 +89,7 @@ module _ {M : Type 1} (𝓤 : URA M) (H : Heap 𝓤) (A : Atoms 𝓤) (W : Given
 
   -- what `advance` says
   abbrev Said : ℕ → State → List ℕ → Type 0
-  Said r left after = as-advanced r left after ≡ rules.step (list .now) (as-state given) (log .now) (record { station = station; reset = reset })
+  Said r left after = AdvancePromise (list .now) (as-state given) (log .now) (record { station = station; reset = reset }) r left after
 
   -- the function ends with what `advance` left
   exits : (r : ℕ) (left : State) (after : List ℕ) → Said r left after → length after ≡ length (log .now) → r < 2 ^ 8

@@ -14,8 +14,8 @@ use Rattle.rules.specs.Records.{list-record-at, list-count}
 use Rattle.rules.specs.List.{outside, inside, sound-list}
 use Rattle.rules.specs.Lights.{led-to, body}
 use Rattle.laws.proofs.Choice.{by-test}
-use Rattle.touches.specs.Reached.{Reached, itself, by-t1, by-t2, BodyIsReached}
-use Rattle.touches.proofs.Inside.{Onward, inside-means, await-leads-in}
+use Rattle.lit.specs.Reached.{Reached, itself, by-t1, by-t2, BodyIsReached}
+use Rattle.lit.proofs.Inside.{Onward, inside-means, await-leads-in}
 
 among-two : (q a b : ℕ) (more : List ℕ) → among q (a ∷ b ∷ []) ≡ true → among q (a ∷ b ∷ more) ≡ true
 among-two q a b more here =

@@ -1,8 +1,8 @@
 -- What a sound list says of an inside record: it is not the first record, and each of its targets leaves the body or leads to a higher
 -- inside record of its station. An AWAIT leads to such a record. Assumes nothing.
-use mathlib.Core.Path.{_≡_, _∙_}
+use mathlib.Core.Path.{_≡_}
 use mathlib.Core.Logic.{_⊎_, inl, inr}
-use mathlib.Core.Bool.{Bool, true, false, and-false}
+use mathlib.Core.Bool.{Bool, true, and-false}
 use mathlib.Core.List.{List}
 use Prim.Native.Nat.{ℕ, _+_, _-_, _≤_, _<_}
 use native.Mathlib.Omega.{arith}
@@ -13,12 +13,8 @@ use Rattle.rules.specs.Names.{IF, AWAIT, max-list}
 use Rattle.rules.specs.Records.{list-record-at, list-count}
 use Rattle.rules.specs.List.{stations, later, is-at, outside, inside, later-right, sound-list}
 use Rattle.rules.specs.List.{inside-target, outside-targets, inside-targets}
-use Rattle.laws.proofs.Choice.{by-test}
+use Rattle.laws.proofs.Choice.{by-test, surely}
 use Rattle.laws.proofs.Places.{each-at}
-
--- a test holds if, were it to fail, what is true would be false
-pub surely : (test : Bool) → (test ≡ false → false ≡ true) → test ≡ true
-surely test fails = by-test test (λ e. e) (λ e. e ∙ fails e)
 
 -- where a target leads
 abbrev pub Onward : List ℕ → ℕ → ℕ → ℕ → Type 0

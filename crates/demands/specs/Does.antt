@@ -1,0 +1,89 @@
+-- What BUILD, START, STEP and UNDO do where they are not refused, of any seven calls, on any list that is sound. These are definitions and
+-- claims, and proofs/Does.antt shows the claims of the rules' calls.
+use mathlib.Core.Path.{_≡_}
+use mathlib.Core.Logic.{_↔_}
+use mathlib.Core.Bool.{true}
+use mathlib.Core.List.{List}
+use Prim.Native.Nat.{ℕ, _+_, _*_, _≤_, _<_}
+use lib.Dec.{eqb}
+use lib.ListN.{length, take, drop, getD, replicate}
+use lib.IntN.{pos}
+use Rattle.rules.specs.Words.{if_then_else_, written}
+use Rattle.rules.specs.Names.{variables}
+use Rattle.rules.specs.Records.{list-record-at, Pick, pick-bytes}
+use Rattle.rules.specs.Build.{Built, list-records}
+use Rattle.rules.specs.List.{stations, initials, sound-list}
+use Rattle.rules.specs.State.{State, position, priority}
+use Rattle.rules.specs.Start.{initial-run, start-records}
+use Rattle.rules.specs.Ready.{next-step, ready}
+use Rattle.rules.specs.Step.{step-vars, step-position}
+use Rattle.rules.specs.Undo.{replayed}
+use Rattle.rules.specs.Calls.{Seven}
+use Rattle.reading.specs.Accepted.{Accepted}
+use Rattle.layout.specs.Built.{built}
+use Rattle.fair.specs.Fair.{Sch, Update}
+use Rattle.fair.specs.Sound.{Held}
+
+-- BUILD takes a file that check accepts, and leaves its list in the front of the buffer; "bytes past the list stay"
+pub record Lays (file buffer : List ℕ) (a : Built) : Type 0 where
+  pub accepted : Accepted file
+  pub counted : a .count ≡ length (list-records file)
+  pub list-is : take (16 * a .count) (a .buffer) ≡ built file
+  pub rest-stays : drop (16 * a .count) (a .buffer) ≡ drop (16 * a .count) buffer
+
+abbrev pub BuildLays : Seven → Type 0
+BuildLays bench = (file buffer : List ℕ) → bench .build file buffer .number ≡ 0 → Lays file buffer (bench .build file buffer)
+
+-- START takes a sound list, "exactly n reset bytes", none above B, and a log with room for the start records
+pub record CanStart (list : List ℕ) (b : ℕ) (resets log : List ℕ) : Type 0 where
+  pub of-list : sound-list list ≡ true
+  pub count : length resets ≡ stations list
+  pub within : (j : ℕ) → j < stations list → getD resets j 0 ≤ b
+  pub room : 2 * stations list ≤ length log
+
+abbrev pub StartTaken : Seven → Type 0
+StartTaken bench = (list : List ℕ) (b : ℕ) (resets log : List ℕ) → (bench .start list b resets log .number ≡ 0) ↔ CanStart list b resets log
+
+-- "It runs the initial part and sets priorities to the resets"; variables begin at 0, a station at its INIT's t1; the B is the one
+-- given, and no step stands
+pub record Begins (list : List ℕ) (b : ℕ) (resets : List ℕ) (t : State) : Type 0 where
+  pub held : Held t
+  pub vars : t .vars ≡ initial-run list (stations list) (initials list) (replicate variables 0)
+  pub positions : (j : ℕ) → j < stations list → position t j ≡ list-record-at list j .t1
+  pub priorities : (j : ℕ) → j < stations list → priority t j ≡ pos (getD resets j 0)
+  pub rest : (j : ℕ) → stations list ≤ j → (position t j ≡ 0) × (priority t j ≡ pos 0)
+  pub n-is : t .n ≡ stations list
+  pub b-is : t .b ≡ b
+  pub m-is : t .m ≡ 0
+
+abbrev pub StartBegins : Seven → Type 0
+StartBegins bench =
+    (list : List ℕ) (b : ℕ) (resets log : List ℕ) → bench .start list b resets log .number ≡ 0
+    → Begins list b resets (bench .start list b resets log .state)
+    × (bench .start list b resets log .log ≡ written log 0 (start-records 0 resets))
+
+-- STEP: the pick satisfies FAIR's SCH, judged before the step. "SKIP, SET, one test, and AWAIT with its body are one step each": the
+-- variables and the station's position after its next step; no other station moves. The priorities satisfy UPDATE, and all else stays but m
+pub record Does (list : List ℕ) (s : State) (p : Pick) (t : State) : Type 0 where
+  pub held : Held t
+  pub chosen : Sch (s .n) (ready list s) (priority s) (p .station)
+  pub vars : t .vars ≡ step-vars list (s .vars) (next-step list s (p .station))
+  pub positions : (j : ℕ)
+      → position t j ≡ (if eqb j (p .station) then step-position (s .vars) (next-step list s (p .station)) else position s j)
+  pub priorities : Update (s .n) (ready list s) (s .b) (priority s) (priority t) (p .station) (p .reset)
+  pub rest : (j : ℕ) → s .n ≤ j → priority t j ≡ priority s j
+  pub n-is : t .n ≡ s .n
+  pub b-is : t .b ≡ s .b
+  pub m-is : t .m ≡ s .m + 1
+
+abbrev pub StepDoes : Seven → Type 0
+StepDoes bench =
+    (list : List ℕ) (s : State) (log : List ℕ) (p : Pick) → Held s → bench .step list s log p .number ≡ 0
+    → Does list s p (bench .step list s log p .state)
+    × (bench .step list s log p .log ≡ written log (2 * (s .n + s .m)) (pick-bytes p))
+
+-- UNDO: "the state reached by replaying the first n+m-1 records"; whatever state is given, it depends on no more of it than B and m
+abbrev pub UndoReplays : Seven → Type 0
+UndoReplays bench =
+    (list : List ℕ) (s : State) (log : List ℕ) → bench .undo list s log .number ≡ 0
+    → bench .undo list s log .state ≡ replayed list log (s .b) (s .m) .state

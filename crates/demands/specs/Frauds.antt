@@ -1,0 +1,166 @@
+-- Wrong programs, each by what its calls are like, and that the demands shut them out. What a fraud answers is said where it refuses nothing,
+-- unless its point is refusing, or it is the same where the rules refuse. These are definitions and claims: proofs/Frauds.antt and
+-- proofs/Waiting.antt show the claims.
+use mathlib.Core.Path.{_≡_}
+use mathlib.Core.Logic.{_≢_}
+use mathlib.Core.Bool.{true, false, not}
+use mathlib.Core.List.{List, [], _∷_, _++_}
+use mathlib.Core.Option.{some}
+use Prim.Native.Nat.{ℕ, _+_, _*_, _/_, _≤_, _<_}
+use lib.Dec.{eqb}
+use lib.ListN.{length, take}
+use lib.IntN.{ℤ}
+use Rattle.rules.specs.Words.{if_then_else_, changed, Answer}
+use Rattle.rules.specs.Names.{LENGTH, LIST}
+use Rattle.rules.specs.Records.{Pick, pick-at}
+use Rattle.rules.specs.State.{State, zeros, priority}
+use Rattle.rules.specs.Ready.{ended, waiting, ready}
+use Rattle.rules.specs.Step.{charged, Stepped, step}
+use Rattle.rules.specs.Lights.{Lights, dark}
+use Rattle.rules.specs.Calls.{Seven, ruled}
+use Rattle.rules.specs.History.{Call, UNDO, Steps, taken, history}
+use Rattle.reading.specs.Accepted.{Accepted}
+use Rattle.layout.specs.Built.{built}
+use Rattle.fair.specs.Sound.{Held}
+use Rattle.history.specs.Back.{below}
+use Rattle.history.specs.Passed.{FewLow, PassedOver}
+use Rattle.demands.specs.Order.{before-steps}
+use Rattle.demands.specs.Runs.{Singles}
+use Rattle.demands.specs.Lights.{Lit}
+use Rattle.demands.specs.Demands.{Demand1, Demand2}
+
+-- a state with another m, and with other priorities
+abbrev pub with-m : State → ℕ → State
+with-m s m = record { vars = s .vars; positions = s .positions; priorities = s .priorities; n = s .n; b = s .b; m = m }
+
+abbrev pub with-priorities : State → List ℤ → State
+with-priorities s z = record { vars = s .vars; positions = s .positions; priorities = z; n = s .n; b = s .b; m = s .m }
+
+-- the frauds of the run calls
+pub record ShutOut (bench : Seven) : Type 0 where
+  -- "one that refuses always": a RUN, wherever a step is asked for
+  pub start-refuses : ((list : List ℕ) (b : ℕ) (resets log : List ℕ) → bench .start list b resets log .number ≢ 0) → ⊥
+  pub step-refuses : ((list : List ℕ) (s : State) (log : List ℕ) (p : Pick) → bench .step list s log p .number ≢ 0) → ⊥
+  pub run-refuses : ((list : List ℕ) (s : State) (log picks : List ℕ) (most : ℕ) → 1 ≤ most → 1 ≤ length picks / 2
+      → bench .run list s log picks most .number ≢ 0) → ⊥
+  pub undo-refuses : ((list : List ℕ) (s : State) (log : List ℕ) → bench .undo list s log .number ≢ 0) → ⊥
+  pub lights-refuses : ((list : List ℕ) (s : State) → bench .lights list s .number ≢ 0) → ⊥
+  -- "one with a constant answer": a RUN, wherever it takes a step
+  pub start-constant : (t : State)
+      → ((list : List ℕ) (b : ℕ) (resets log : List ℕ) → bench .start list b resets log .number ≡ 0 → bench .start list b resets log .state ≡ t) → ⊥
+  pub step-constant : (t : State)
+      → ((list : List ℕ) (s : State) (log : List ℕ) (p : Pick) → bench .step list s log p .number ≡ 0 → bench .step list s log p .state ≡ t) → ⊥
+  pub run-constant : (t : State) (k : ℕ)
+      → ((list : List ℕ) (s : State) (log picks : List ℕ) (most : ℕ) → 1 ≤ bench .run list s log picks most .steps
+      → bench .run list s log picks most .number ≡ 0
+      → (bench .run list s log picks most .state ≡ t) × (bench .run list s log picks most .steps ≡ k)) → ⊥
+  pub undo-constant : (t : State)
+      → ((list : List ℕ) (s : State) (log : List ℕ) → bench .undo list s log .number ≡ 0 → bench .undo list s log .state ≡ t) → ⊥
+  pub lights-constant : (a : Lights) → ((list : List ℕ) (s : State) → bench .lights list s .number ≡ 0 → bench .lights list s ≡ a) → ⊥
+  -- "one that writes nothing"
+  pub start-writes-nothing : ((list : List ℕ) (b : ℕ) (resets log : List ℕ) → bench .start list b resets log .log ≡ log) → ⊥
+  pub step-writes-nothing : ((list : List ℕ) (s : State) (log : List ℕ) (p : Pick) → bench .step list s log p .log ≡ log) → ⊥
+  pub run-writes-nothing : ((list : List ℕ) (s : State) (log picks : List ℕ) (most : ℕ) → bench .run list s log picks most .log ≡ log) → ⊥
+  -- "one that makes the first step truly and afterwards only advances m": of the steps taken, single or in a run from the start
+  pub step-only-m : ((list : List ℕ) (s : State) (log : List ℕ) (p : Pick) → 1 ≤ s .m → bench .step list s log p .number ≡ 0
+      → bench .step list s log p .state ≡ with-m s (s .m + 1)) → ⊥
+  pub run-only-m : ((list : List ℕ) (s : State) (log picks : List ℕ) (most : ℕ) → s .m ≡ 0 → 1 ≤ bench .run list s log picks most .steps
+      → bench .run list s log picks most .number ≡ 0
+      → bench .run list s log picks most .state
+      ≡ with-m (bench .step list s log (pick-at picks 0) .state) (bench .run list s log picks most .steps)) → ⊥
+  -- "a RUN with an invented number of steps": another than that of the single steps that lead to its state
+  pub run-invents : (list : List ℕ) (s : State) (log picks : List ℕ) (most k : ℕ) → Held s
+      → Singles bench list picks s log k (bench .run list s log picks most .state) (bench .run list s log picks most .log)
+      → bench .run list s log picks most .steps ≢ k → ⊥
+  -- a RUN that never takes a step
+  pub run-idle : ((list : List ℕ) (s : State) (log picks : List ℕ) (most : ℕ) → before-steps list s picks ≡ 0
+      → bench .run list s log picks most .steps ≡ 0) → ⊥
+  -- LIGHTS that are always dark
+  pub lights-dark : ((list : List ℕ) (s : State) → bench .lights list s .number ≡ 0
+      → bench .lights list s ≡ record { number = 0; ready = 0; in-turn = 0; waiting = 0; ended = 0; rows = dark ∷ dark ∷ [] }) → ⊥
+  -- "lights kept from before" an undo, which takes a program that remembers: `lit` is what it lights after any calls, as demand 2 asks, but
+  -- that after an undo the stations lit as ready are those of before it
+  pub lights-kept : (lit : List ℕ → State → List ℕ → List Call → Lights)
+      → ((list : List ℕ) (s : State) (log : List ℕ) (calls : List Call) (steps : Steps) → history bench list s log calls .standing ≡ some steps
+      → Lit list (history bench list s log calls .state) (lit list s log calls))
+      → ((list : List ℕ) (s : State) (log : List ℕ) (calls : List Call) (steps : Steps) (p : Pick) (t : State)
+      → history bench list s log calls .standing ≡ some (taken steps p t)
+      → lit list s log (calls ++ (UNDO ∷ [])) .ready ≡ lit list s log calls .ready) → ⊥
+  -- "Undo that restores variables but not priorities", in any history
+  pub undo-priorities : (list : List ℕ) (s : State) (log : List ℕ) (calls : List Call) (steps : Steps)
+      → history bench list s log calls .standing ≡ some steps
+      → let now = history bench list s log calls in
+      bench .undo list (now .state) (now .log) .state .priorities ≢ below steps .state .priorities → ⊥
+  -- "Lowering the priority number of a waiting station", by any step
+  pub waiting-charged : (list : List ℕ) (s : State) (log : List ℕ) (p : Pick) → Held s → bench .step list s log p .number ≡ 0
+      → (j : ℕ) → j < s .n → waiting list s j ≡ true → priority (bench .step list s log p .state) j ≢ priority s j → ⊥
+  -- "Judging readiness after the step, so the station just released is charged"
+  pub judged-late : (list : List ℕ) (s : State) (log : List ℕ) (p : Pick) → Held s → bench .step list s log p .number ≡ 0
+      → (j : ℕ) → j < s .n → ready list s j ≡ false → ready list (bench .step list s log p .state) j ≡ true
+      → priority (bench .step list s log p .state) j ≢ priority s j → ⊥
+  -- a START that stores another B than it was given
+  pub another-b : (list : List ℕ) (b : ℕ) (resets log : List ℕ) → bench .start list b resets log .number ≡ 0
+      → bench .start list b resets log .state .b ≢ b → ⊥
+
+-- "Demand 2 shuts out all four"
+abbrev pub ByDemand2 : Type 0
+ByDemand2 = (bench : Seven) → Demand2 bench → ShutOut bench
+
+-- "for check and build, with the tests and list rules above": the same frauds of those two
+pub record CheckShutOut (bench : Seven) : Type 0 where
+  pub check-refuses : ((file : List ℕ) → bench .check file .number ≢ 0) → ⊥
+  pub build-refuses : ((file buffer : List ℕ) → bench .build file buffer .number ≢ 0) → ⊥
+  -- a constant answer to every file, and a constant place to every file that it refuses
+  pub check-constant : (a : Answer) → ((file : List ℕ) → bench .check file ≡ a) → ⊥
+  pub check-one-place : (place : ℕ) → ((file : List ℕ) → bench .check file .number ≢ 0 → bench .check file .place ≡ place) → ⊥
+  pub build-constant : (count : ℕ)
+      → ((file buffer : List ℕ) → bench .build file buffer .number ≡ 0 → bench .build file buffer .count ≡ count) → ⊥
+  pub build-writes-nothing : ((file buffer : List ℕ) → bench .build file buffer .buffer ≡ buffer) → ⊥
+  -- a BUILD that leaves another list than the file's
+  pub another-list : (file buffer : List ℕ) → bench .build file buffer .number ≡ 0
+      → take (16 * bench .build file buffer .count) (bench .build file buffer .buffer) ≢ built file → ⊥
+
+abbrev pub WithTests : Type 0
+WithTests = (bench : Seven) → Demand1 bench → Demand2 bench → CheckShutOut bench
+
+-- the rules' calls, but that a step charges waiting stations too
+abbrev charge-waiting : List ℕ → State → List ℕ → Pick → Stepped
+charge-waiting list s log p =
+    let a = step list s log p in
+    let z = changed (λ j. charged (eqb j (p .station)) (not (ended list s j)) (p .reset)) (s .n) (s .priorities) in
+    if eqb (a .number) 0 then record { number = 0; state = with-priorities (a .state) z; log = a .log } else a
+
+abbrev pub charging : Seven
+charging =
+    record {
+      check = ruled .check;
+      build = ruled .build;
+      start = ruled .start;
+      step = charge-waiting;
+      run = ruled .run;
+      undo = ruled .undo;
+      lights = ruled .lights;
+    }
+
+-- "then demand 3's bound on k breaks", on a list made from an accepted sequence, by steps alone
+abbrev pub WaitingBreaks : Type 0
+WaitingBreaks =
+    ((file : List ℕ) → Accepted file → (s : State) (log : List ℕ) (calls : List Call) (steps : Steps)
+    → history charging (built file) s log calls .standing ≡ some steps → FewLow (built file) (history charging (built file) s log calls .state)) → ⊥
+
+-- calls that refuse everything
+abbrev pub idle : Seven
+idle =
+    record {
+      check = λ file. record { number = LENGTH; place = 0 };
+      build = λ file buffer. record { number = LENGTH; place = 0; count = 0; buffer = buffer };
+      start = λ list b resets log. record { number = LIST; state = zeros; log = log };
+      step = λ list s log p. record { number = LIST; state = s; log = log };
+      run = λ list s log picks most. record { number = LIST; state = s; steps = 0; log = log };
+      undo = λ list s log. record { number = LIST; state = s };
+      lights = λ list s. record { number = LIST; ready = 0; in-turn = 0; waiting = 0; ended = 0; rows = dark ∷ dark ∷ [] };
+    }
+
+-- "Demand 3 alone would let idle programs by": its bounds do, which is why it is over demand 2
+abbrev pub IdleBounds : Type 0
+IdleBounds = PassedOver idle

@@ -1,0 +1,36 @@
+-- LIGHTS, of any seven calls: the stations in turn, and what they show in any history and after any undo. These are claims, and proofs/Lights.antt
+-- shows them of the rules' calls.
+use mathlib.Core.Path.{_≡_}
+use mathlib.Core.Logic.{_↔_}
+use mathlib.Core.Bool.{true}
+use mathlib.Core.List.{List}
+use mathlib.Core.Option.{some}
+use Prim.Native.Nat.{ℕ, _≤_}
+use Rattle.rules.specs.Records.{Pick}
+use Rattle.rules.specs.State.{State}
+use Rattle.rules.specs.Lights.{Lights}
+use Rattle.rules.specs.Calls.{Seven}
+use Rattle.rules.specs.History.{Call, Steps, Now, history}
+use Rattle.lit.specs.Lit.{bit, Shows}
+use Rattle.fair.specs.Taken.{CanStep}
+use Rattle.history.specs.Back.{below}
+
+-- the stations in turn are those of which a step with an allowed reset is taken
+abbrev pub InTurn : Seven → Type 0
+InTurn bench =
+    (list : List ℕ) (s : State) (log : List ℕ) (p : Pick) → CanStep list s log → p .reset ≤ s .b
+    → (bit (bench .lights list s .in-turn) (p .station) ≡ true) ↔ (bench .step list s log p .number ≡ 0)
+
+-- an answer that is not refused and shows the state
+abbrev pub Lit : List ℕ → State → Lights → Type 0
+Lit list s a = (a .number ≡ 0) × Shows list s a
+
+-- after any history they show the last state answered, and after an undo the state below the top, each worked out from that state alone
+pub record Fresh (bench : Seven) (list : List ℕ) (now : Now) (steps : Steps) : Type 0 where
+  pub lit : Lit list (now .state) (bench .lights list (now .state))
+  pub lit-undone : Lit list (below steps .state) (bench .lights list (bench .undo list (now .state) (now .log) .state))
+
+abbrev pub LightsFresh : Seven → Type 0
+LightsFresh bench =
+    (list : List ℕ) (s : State) (log : List ℕ) (calls : List Call) (steps : Steps)
+    → history bench list s log calls .standing ≡ some steps → Fresh bench list (history bench list s log calls) steps

@@ -1,0 +1,30 @@
+-- Calls that answer as the rules' do: everywhere, or so far as STEP and RUN are given run states. These are definitions and claims: proofs/Whole.antt
+-- and proofs/Only.antt show the claims.
+use mathlib.Core.Path.{_≡_}
+use mathlib.Core.List.{List}
+use Prim.Native.Nat.{ℕ}
+use Rattle.rules.specs.Records.{Pick}
+use Rattle.rules.specs.State.{State}
+use Rattle.rules.specs.Calls.{Seven, ruled}
+use Rattle.fair.specs.Sound.{Held}
+use Rattle.demands.specs.Demands.{Demand1, Demand2, Demands}
+
+-- STEP and RUN, of the states of which something is so
+pub record Equal (Of : State → Type 0) (bench : Seven) : Type 0 where
+  pub check : (file : List ℕ) → bench .check file ≡ ruled .check file
+  pub build : (file buffer : List ℕ) → bench .build file buffer ≡ ruled .build file buffer
+  pub start : (list : List ℕ) (b : ℕ) (resets log : List ℕ) → bench .start list b resets log ≡ ruled .start list b resets log
+  pub step : (list : List ℕ) (s : State) (log : List ℕ) (p : Pick) → Of s → bench .step list s log p ≡ ruled .step list s log p
+  pub run : (list : List ℕ) (s : State) (log picks : List ℕ) (most : ℕ) → Of s
+      → bench .run list s log picks most ≡ ruled .run list s log picks most
+  pub undo : (list : List ℕ) (s : State) (log : List ℕ) → bench .undo list s log ≡ ruled .undo list s log
+  pub lights : (list : List ℕ) (s : State) → bench .lights list s ≡ ruled .lights list s
+
+-- what holds of the rules' calls holds of any that equal them
+abbrev pub Carried : Type 0
+Carried = (bench : Seven) → Equal (λ s. Unit {0}) bench → Demands bench
+
+-- and the first two demands leave no other: calls that meet them answer as the rules do, whatever they are given, in every state of 32
+-- variables, 8 positions and 8 priorities
+abbrev pub NoOther : Type 0
+NoOther = (bench : Seven) → Demand1 bench → Demand2 bench → Equal Held bench

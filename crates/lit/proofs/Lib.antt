@@ -1,0 +1,6 @@
+pub mod Inside
+pub mod Bodies
+pub mod Bits
+pub mod Touched
+pub mod Shown
+pub mod Only
