@@ -16,8 +16,8 @@ use Rattle.rules.specs.Records.{Record, ListRecord}
 use Rattle.rules.specs.Trees.{Statements, nothing, skip, assign, branch, loop, await, size}
 use Rattle.rules.specs.Build.{bare, listed, start-of, laid, bytes-of}
 use Rattle.reading.specs.Reading.{flat, Proper, end, skips, assigns, branches, loops, awaits}
-use Rattle.layout.proofs.Bytes.{length-bytes-of}
-use Rattle.layout.proofs.Lengths.{length-laid}
+use Rattle.built.proofs.Bytes.{length-bytes-of}
+use Rattle.built.proofs.Lengths.{length-laid}
 use Rattle.laying.specs.Layout.{Laid, stepped, pushed, switched, popped, put-at, lay-record, lay-records}
 use Rattle.build.proofs.Written.{written-nothing, records-before, record-before, length-written}
 use Rattle.build.proofs.Parts.{Fits, loops-of, Among, among-left, among-right}

@@ -8,7 +8,7 @@ use Rattle.rules.specs.Records.{Record, record-at, record-count, records}
 use Rattle.rules.specs.Trees.{Statements, nothing, skip, assign, branch, loop, await, size}
 use Rattle.rules.specs.Build.{list-of}
 use Rattle.reading.specs.Reading.{flat, flat-stations, flat-file, Stations, Sets}
-use Rattle.layout.proofs.Lengths.{steps-in, tally-steps, steps-file, length-list}
+use Rattle.built.proofs.Lengths.{steps-in, tally-steps, steps-file, length-list}
 use Rattle.laying.specs.Layout.{step-count}
 use Rattle.build.proofs.Parts.{loops-of}
 use Rattle.build.proofs.Stations.{station-loops}

@@ -16,8 +16,8 @@ use Rattle.rules.specs.Trees.{Statements, size}
 use Rattle.rules.specs.Build.{bare, listed, laid, inits, bodies, initial-record, list-of, bytes-of}
 use Rattle.laws.proofs.Places.{values-suc}
 use Rattle.reading.specs.Reading.{flat, flat-stations, flat-file, Proper, Stations, a-station, Sets, a-set}
-use Rattle.layout.proofs.Bytes.{length-bytes-of}
-use Rattle.layout.proofs.Lengths.{length-laid, extent, length-bodies}
+use Rattle.built.proofs.Bytes.{length-bytes-of}
+use Rattle.built.proofs.Lengths.{length-laid, extent, length-bodies}
 use Rattle.laying.specs.Layout.{Laid, begun, stepped, turned, put-at, lay-record, lay-records, lay-inits}
 use Rattle.build.proofs.Written.{written-nothing, records-before, record-before, length-written}
 use Rattle.build.proofs.Parts.{Fits, loops-of, Among, among-left, among-right}

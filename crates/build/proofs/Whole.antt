@@ -16,8 +16,8 @@ use Rattle.reading.specs.Reading.{flat-stations, flat-file}
 use Rattle.reading.specs.Accepted.{Accepted, Reads}
 use Rattle.reading.proofs.Passed.{passed, kinds-values}
 use Rattle.reading.proofs.One.{reading-is}
-use Rattle.layout.proofs.Whole.{short-file}
-use Rattle.layout.proofs.Lengths.{extent, extent-within, length-list}
+use Rattle.built.proofs.Whole.{short-file}
+use Rattle.built.proofs.Lengths.{extent, extent-within, length-list}
 use Rattle.laying.specs.Loops.{Sought, seek-records, nothing-sought}
 use Rattle.laying.specs.Layout.{laid-out}
 use Rattle.build.proofs.Stations.{station-loops, Shallow, begin, whole, laid-all}

@@ -12,7 +12,7 @@ use borrow.Author.Tests.{le-leb}
 use Rattle.rules.specs.Words.{written}
 use Rattle.rules.specs.Records.{ListRecord}
 use Rattle.rules.specs.Build.{bytes-of}
-use Rattle.layout.proofs.Bytes.{length-bytes-of}
+use Rattle.built.proofs.Bytes.{length-bytes-of}
 use Rattle.laying.specs.Layout.{put-at}
 
 pub length-written : (buffer xs : List ℕ) (at : ℕ) → at + length xs ≤ length buffer → length (written buffer at xs) ≡ length buffer

@@ -7,11 +7,11 @@ use lib.ListN.{getD}
 use Rattle.rules.specs.State.{State}
 use Rattle.rules.specs.Start.{started, start}
 use Rattle.reading.specs.Accepted.{Accepted}
-use Rattle.layout.specs.Built.{built}
+use Rattle.built.specs.Built.{built}
 use Rattle.fair.proofs.Begun.{start-priority}
 use Rattle.fair.proofs.Relation.{step-fair}
-use Rattle.meaning.proofs.Begun.{start-whole}
-use Rattle.meaning.proofs.Meant.{ready-enabled, sound-standing, taken-moves}
+use Rattle.language.proofs.Begun.{start-whole}
+use Rattle.language.proofs.Meant.{ready-enabled, sound-standing, taken-moves}
 use Rattle.rules.specs.Calls.{ruled}
 use Rattle.rules.specs.History.{Call, Steps, top, history}
 use Rattle.history.specs.Back.{Made, by-start, by-step}

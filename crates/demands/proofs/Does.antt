@@ -24,7 +24,7 @@ use Rattle.laws.proofs.Choice.{by-test}
 use Rattle.laws.proofs.Places.{each-all}
 use Rattle.laws.proofs.Judge.{judge-silent}
 use Rattle.reading.specs.Accepted.{Accepted}
-use Rattle.layout.proofs.Bytes.{length-bytes-of}
+use Rattle.built.proofs.Bytes.{length-bytes-of}
 use Rattle.fair.proofs.Meaning.{sound-means, sound-list-means}
 use Rattle.fair.proofs.Begun.{start-priority, start-position, no-position, start-sound}
 use Rattle.fair.proofs.Charge.{rest-kept}

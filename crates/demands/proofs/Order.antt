@@ -19,7 +19,7 @@ use Rattle.rules.specs.Step.{step-tests, step}
 use Rattle.rules.specs.Undo.{undo-tests, undo}
 use Rattle.rules.specs.Lights.{lights-tests, lights}
 use Rattle.rules.specs.Calls.{ruled}
-use Rattle.shape.proofs.Meant.{check-fault, check-shaped, check-deep}
+use Rattle.grammar.proofs.Meant.{check-fault, check-shaped, check-deep}
 use Rattle.laws.proofs.Choice.{by-test, if-yes, if-no}
 use Rattle.laws.proofs.Judge.{Numbered, judge-silent, judge-then, judge-before}
 use Rattle.demands.specs.Order.{CheckOrder, CheckShapes, BuildOrder, StartOrder, StepOrder, UndoOrder, LightsOrder, RefusalLeaves}

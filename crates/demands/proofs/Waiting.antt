@@ -24,7 +24,7 @@ use Rattle.rules.specs.Ready.{ended, waiting, ready, lowest}
 use Rattle.rules.specs.Step.{body-run, step-vars, step-position, charge, stepped, step}
 use Rattle.rules.specs.History.{Call, CHECK, BUILD, START, STEP, RUN, UNDO, LIGHTS, Steps, begun, Now, stepped-on, single-steps, called, calls-from, history}
 use Rattle.reading.specs.Accepted.{Accepted}
-use Rattle.layout.specs.Built.{built}
+use Rattle.built.specs.Built.{built}
 use Rattle.demands.specs.Frauds.{charging, WaitingBreaks, idle, IdleBounds}
 
 -- STATION; WHILE v0 = v0; SET v0 := v0+1; OD; STATION; AWAIT v0 = 1; SKIP; END

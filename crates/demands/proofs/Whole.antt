@@ -4,7 +4,7 @@ use Rattle.rules.specs.Calls.{Seven, ruled}
 use Rattle.lit.proofs.Shown.{lights-show}
 use Rattle.fair.proofs.Taken.{step-taken}
 use Rattle.fair.proofs.Deadlock.{no-deadlock, step-there}
-use Rattle.meaning.proofs.Meant.{transitions-determined}
+use Rattle.language.proofs.Meant.{transitions-determined}
 use Rattle.history.proofs.Back.{undo-below}
 use Rattle.history.proofs.Written.{log-written}
 use Rattle.history.proofs.Passed.{passed-over-bound}

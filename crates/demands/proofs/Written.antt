@@ -14,16 +14,16 @@ use Rattle.rules.specs.Calls.{ruled}
 use Rattle.laws.proofs.Places.{each-all, length-values}
 use Rattle.reading.specs.Accepted.{Accepted}
 use Rattle.reading.proofs.One.{reading-is, reading-only}
-use Rattle.layout.specs.Built.{built}
-use Rattle.layout.proofs.Targets.{list-targets, closing}
-use Rattle.layout.proofs.Whole.{built-sound, built-parts}
+use Rattle.built.specs.Built.{built}
+use Rattle.built.proofs.Targets.{list-targets, closing}
+use Rattle.built.proofs.Whole.{built-sound, built-parts}
 use Rattle.fair.specs.Taken.{CanStep}
 use Rattle.fair.proofs.Taken.{step-taken, step-state}
-use Rattle.meaning.specs.Language.{Program, Moves, parallel-rule}
-use Rattle.meaning.specs.Rests.{stands-for}
-use Rattle.meaning.specs.Claims.{Standing, programs}
-use Rattle.meaning.proofs.Begun.{init-whole}
-use Rattle.meaning.proofs.Meant.{stop-ends, body-runs, ready-enabled, station-moves, step-moves, sound-standing}
+use Rattle.language.specs.Language.{Program, Moves, parallel-rule}
+use Rattle.language.specs.Rests.{stands-for}
+use Rattle.language.specs.Claims.{Standing, programs}
+use Rattle.language.proofs.Begun.{init-whole}
+use Rattle.language.proofs.Meant.{stop-ends, body-runs, ready-enabled, station-moves, step-moves, sound-standing}
 use Rattle.demands.specs.Written.{StartThere, Allowed, StepIs, AsWritten}
 use Rattle.demands.proofs.Order.{start-order}
 use Rattle.demands.proofs.Computed.{starting, computes}

@@ -12,11 +12,11 @@ use Rattle.rules.specs.Records.{Pick}
 use Rattle.rules.specs.Trees.{stations-of, initial-part}
 use Rattle.rules.specs.State.{State, priority}
 use Rattle.rules.specs.Ready.{ready}
-use Rattle.layout.specs.Built.{built}
+use Rattle.built.specs.Built.{built}
 use Rattle.fair.specs.Fair.{Sch, Update}
-use Rattle.meaning.specs.Language.{E, ⟨_∣_⟩⟶*⟨_∣_⟩, component, Moves, Enabled}
-use Rattle.meaning.specs.Rests.{program-of, assignments}
-use Rattle.meaning.specs.Claims.{programs}
+use Rattle.language.specs.Language.{E, ⟨_∣_⟩⟶*⟨_∣_⟩, component, Moves, Enabled}
+use Rattle.language.specs.Rests.{program-of, assignments}
+use Rattle.language.specs.Claims.{programs}
 use Rattle.rules.specs.History.{Steps, begun, taken, top}
 
 -- the initial part has been run from zeros, the stations are whole, and the scheduling variables are the resets, each from 0 to B

@@ -10,7 +10,7 @@ use Rattle.rules.specs.Calls.{Seven}
 use Rattle.reading.specs.Accepted.{Accepted}
 use Rattle.lit.specs.Lit.{LightsShow}
 use Rattle.fair.specs.Taken.{StepTaken, NoDeadlock, StepThere}
-use Rattle.meaning.specs.Claims.{Determined}
+use Rattle.language.specs.Claims.{Determined}
 use Rattle.history.specs.Back.{UndoBelow}
 use Rattle.history.specs.Written.{LogWritten}
 use Rattle.history.specs.Passed.{PassedOver}

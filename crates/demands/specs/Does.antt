@@ -20,7 +20,7 @@ use Rattle.rules.specs.Step.{step-vars, step-position}
 use Rattle.rules.specs.Undo.{replayed}
 use Rattle.rules.specs.Calls.{Seven}
 use Rattle.reading.specs.Accepted.{Accepted}
-use Rattle.layout.specs.Built.{built}
+use Rattle.built.specs.Built.{built}
 use Rattle.fair.specs.Fair.{Sch, Update}
 use Rattle.fair.specs.Sound.{Held}
 

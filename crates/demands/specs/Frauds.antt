@@ -20,7 +20,7 @@ use Rattle.rules.specs.Lights.{Lights, dark}
 use Rattle.rules.specs.Calls.{Seven, ruled}
 use Rattle.rules.specs.History.{Call, UNDO, Steps, taken, history}
 use Rattle.reading.specs.Accepted.{Accepted}
-use Rattle.layout.specs.Built.{built}
+use Rattle.built.specs.Built.{built}
 use Rattle.fair.specs.Sound.{Held}
 use Rattle.history.specs.Back.{below}
 use Rattle.history.specs.Passed.{FewLow, PassedOver}

@@ -20,8 +20,8 @@ use Rattle.rules.specs.Ready.{ready, lowest}
 use Rattle.rules.specs.Undo.{starts-right, replayed}
 use Rattle.rules.specs.Lights.{dark}
 use Rattle.rules.specs.Calls.{Seven}
-use Rattle.shape.specs.Grammar.{Sequence}
-use Rattle.shape.specs.Meaning.{Fault, Passes-three, seventeenth}
+use Rattle.grammar.specs.Grammar.{Sequence}
+use Rattle.grammar.specs.Meaning.{Fault, Passes-three, seventeenth}
 
 abbrev pub answer : ℕ → ℕ → Answer
 answer number place = record { number = number; place = place }

@@ -15,7 +15,7 @@ use Rattle.rules.specs.Calls.{ruled}
 use Rattle.rules.specs.History.{Call, START, STEP, RUN, UNDO, Steps, begun, taken, start-b, answered, history}
 use Rattle.rules.specs.Passed.{passed-over, Unpicked}
 use Rattle.reading.specs.Accepted.{Accepted}
-use Rattle.layout.specs.Built.{built}
+use Rattle.built.specs.Built.{built}
 use Rattle.demands.specs.Demands.{Bytes}
 
 -- "two stations, each WHILE v0 = v0 around SKIP"

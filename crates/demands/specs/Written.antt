@@ -16,11 +16,11 @@ use Rattle.rules.specs.Calls.{Seven}
 use Rattle.rules.specs.History.{Call, Steps, history}
 use Rattle.reading.specs.Reading.{flat-file, Sets, Stations}
 use Rattle.reading.specs.Accepted.{Reads}
-use Rattle.layout.specs.Built.{built, Sound}
-use Rattle.layout.specs.Targets.{Spot, Has, Targets, Closing}
+use Rattle.built.specs.Built.{built, Sound}
+use Rattle.built.specs.Targets.{Spot, Has, Targets, Closing}
 use Rattle.fair.specs.Taken.{CanStep}
-use Rattle.meaning.specs.Language.{Program, component, Moves, Enabled}
-use Rattle.meaning.specs.Claims.{StopEnds, InitWhole, BodyRuns, SoundStanding, programs, ReadyEnabled, StationMoves}
+use Rattle.language.specs.Language.{Program, component, Moves, Enabled}
+use Rattle.language.specs.Claims.{StopEnds, InitWhole, BodyRuns, SoundStanding, programs, ReadyEnabled, StationMoves}
 use Rattle.demands.specs.Computation.{Starts, Computation}
 
 -- the file has one reading

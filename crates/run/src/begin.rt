@@ -96,7 +96,7 @@ pub(crate) fn begun(list: &[u8], b: u8, log: &[u8]) -> State
 {
     let n = list::stations(list);
     let initials = list::later(list, n) - n;
-    let vars = values::initial_run(list, n, initials, [0u32; 32]);
+    let vars = moves::initial_run(list, n, initials, [0u32; 32]);
     State {
         vars,
         positions: first_steps(list, n),

@@ -119,9 +119,9 @@ impl State {
     {
         let at = station as usize;
         let e = self.next_step(list, at);
-        let position = values::step_position(&self.vars, e);
+        let position = moves::step_position(&self.vars, e);
         let vars = self.vars;
-        let after = values::step_vars(list, vars, e);
+        let after = moves::step_vars(list, vars, e);
         let mut positions = self.positions;
         positions[at] = position;
         let priorities = self.priorities;

@@ -26,7 +26,7 @@ pub fn waiting_at(vars: &[u32; 32], e: ListRecord) -> bool
 {
     let own = e.own;
     if own.kind == Record::AWAIT {
-        return !values::holds(vars, own);
+        return !moves::holds(vars, own);
     }
     false
 }

@@ -9,7 +9,7 @@ use Rattle.rules.specs.Words.{Answer}
 use Rattle.rules.specs.Trees.{stations-of}
 use Rattle.rules.specs.Build.{list-records}
 use Rattle.reading.proofs.One.{stations-counted}
-use Rattle.layout.proofs.Whole.{built-most}
+use Rattle.built.proofs.Whole.{built-most}
 use Rattle.build.proofs.Answer.{accepted-as, build-refused, build-short, build-done, total-is, stations-few}
 use Rattle.build.proofs.Whole.{laid-out-is}
 use Rattle.build.proofs.build.Statement.{statement}
