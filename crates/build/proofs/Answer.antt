@@ -1,46 +1,40 @@
 -- What the rules' build answers: check's refusal, ROOM, or the list. Assumes nothing.
-use mathlib.Core.Path.{_≡_, sym, ap, _∙_}
-use mathlib.Core.List.{List, [], _∷_}
+use mathlib.Core.Path.{_≡_, refl, sym, ap, _∙_}
+use mathlib.Core.List.{List, []}
 use Prim.Native.Nat.{ℕ, _+_, _*_, _≤_, _<_}
 use native.Mathlib.Omega.{arith}
 use lib.Dec.{ltb}
 use lib.ListN.{length}
 use borrow.Author.Tests.{ne-eqb, lt-ltb, le-ltb}
-use Rattle.rules.specs.Words.{written, Answer, _refuses_at_, judge}
+use Rattle.rules.specs.Words.{written, Answer, judge}
 use Rattle.rules.specs.Names.{ROOM, max-stations}
 use Rattle.rules.specs.Check.{check, check-tests, station-count}
 use Rattle.rules.specs.Trees.{initial-part, stations-of}
-use Rattle.rules.specs.Build.{list-records, bytes-of, build-tests, build}
-use Rattle.laws.proofs.Judge.{Numbered, judge-yes, judge-no, judge-silent, judge-then, judge-before}
+use Rattle.rules.specs.Build.{list-records, bytes-of, room-tests, build-tests, build}
+use Rattle.laws.proofs.Judge.{judge-yes, judge-no, judge-then, judge-before, unrefused}
 use Rattle.reading.specs.Accepted.{Accepted}
+use Rattle.reading.proofs.Passed.{accepted-is}
 use Rattle.reading.proofs.One.{reading-is, stations-counted}
 use Rattle.laying.specs.Layout.{step-count}
 use Rattle.build.proofs.Counts.{counted}
 
-numbered : (file : List ℕ) → Numbered (check-tests file)
-numbered file = (omega arith, (omega arith, (omega arith, (omega arith, (omega arith, tt)))))
-
 module _ (file : List ℕ) where
-  -- the number 0 is an accepted file's
-  accepted : check file .number ≡ 0 → Accepted file
-  unfolding check
-  accepted = judge-silent (check-tests file) (numbered file)
-
-  -- the same of an answer that is check's
+  -- the number 0 is an accepted file's, here of an answer that is check's
   pub accepted-as : (answer : Answer) → answer ≡ check file → answer .number ≡ 0 → Accepted file
-  accepted-as answer e z = accepted (sym (ap (λ (a : Answer). a .number) e) ∙ z)
+  accepted-as answer e z = accepted-is file .0 (sym (ap (λ (a : Answer). a .number) e) ∙ z)
 
   pub build-refused : (buffer : List ℕ) → (check file .number ≡ 0 → ⊥)
       → build file buffer ≡ record { number = check file .number; place = check file .place; count = 0; buffer = buffer }
   unfolding build check
   build-refused buffer h =
-      rw (judge-before (check-tests file) ((ltb (length buffer) (16 * length (list-records file)) refuses ROOM at 0) ∷ []) h, ne-eqb (judge (check-tests file) .number) 0 h)
+      rw (judge-before (check-tests file) (room-tests file buffer) h, ne-eqb (judge (check-tests file) .number) 0 h)
 
   module _ (e : Accepted file) where
-    judged : (buffer : List ℕ) → judge (build-tests file buffer) ≡ judge ((ltb (length buffer) (16 * length (list-records file)) refuses ROOM at 0) ∷ [])
+    judged : (buffer : List ℕ) → judge (build-tests file buffer) ≡ judge (room-tests file buffer)
     unfolding check
     judged buffer =
-        judge-then (check-tests file) ((ltb (length buffer) (16 * length (list-records file)) refuses ROOM at 0) ∷ []) (numbered file) (ap (λ (a : Answer). a .number) e)
+        judge-then (check-tests file) (room-tests file buffer)
+        (unrefused (check-tests file) refl .0 (accepted-is file .1 e))
 
     pub build-short : (buffer : List ℕ) → length buffer < 16 * length (list-records file)
         → build file buffer ≡ record { number = ROOM; place = 0; count = 0; buffer = buffer }

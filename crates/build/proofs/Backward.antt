@@ -19,7 +19,8 @@ use Rattle.reading.specs.Reading.{flat, Proper, end, skips, assigns, branches, 
 use Rattle.built.proofs.Bytes.{length-bytes-of}
 use Rattle.built.proofs.Lengths.{length-laid}
 use Rattle.laying.specs.Layout.{Laid, stepped, pushed, switched, popped, put-at, lay-record, lay-records}
-use Rattle.build.proofs.Written.{written-nothing, records-before, record-before, length-written}
+use Rattle.laws.proofs.Written.{written-none, length-written}
+use Rattle.build.proofs.Written.{records-before, record-before}
 use Rattle.build.proofs.Parts.{Fits, loops-of, Among, among-left, among-right}
 use Rattle.build.proofs.Records as records
 
@@ -72,7 +73,7 @@ done-nothing b places x p exit q h =
       starts = refl;
       after-length = h .after-length;
       second-length = h .second-length;
-      buffer = sym (written-nothing (x .buffer) (16 * p));
+      buffer = sym (written-none (x .buffer) (16 * p));
     }
 
 -- SKIP and SET: one record is laid before the rest
@@ -231,7 +232,7 @@ module _ (b : Bool) (r : Record) (u v rest : Statements) (kind : r .kind ≡ IF)
       let es = laid (x .state .station) (x .state .inside) at-rest exit rest in
       let l = length-laid (x .state .station) (x .state .inside) at-rest exit rest in
       let k = length-bytes-of es in
-      rw (d1 .buffer) (length-written (x .buffer) (bytes-of es) (16 * at-rest) (omega (arith, h .room)))
+      rw (d1 .buffer) (length-written (x .buffer) (16 * at-rest) (bytes-of es) (omega (arith, h .room)))
 
   d3 : Done v y2 y3 at-v next (q + length lu)
   unfolding size loops-of lu lv lr at-rest at-v next y3
@@ -271,7 +272,7 @@ module _ (b : Bool) (r : Record) (u v rest : Statements) (kind : r .kind ≡ IF)
       let es = laid (y2 .state .station) (y2 .state .inside) at-v next v in
       let l = length-laid (y2 .state .station) (y2 .state .inside) at-v next v in
       let k = length-bytes-of es in
-      rw (d3 .buffer) (length-written (y2 .buffer) (bytes-of es) (16 * at-v) (omega (arith, h .room, room-1, ap length (d2 .buffer))))
+      rw (d3 .buffer) (length-written (y2 .buffer) (16 * at-v) (bytes-of es) (omega (arith, h .room, room-1, ap length (d2 .buffer))))
       ∙ ap length (d2 .buffer)
       ∙ room-1
 
@@ -461,7 +462,7 @@ module _ (b c : Bool) (u rest : Statements) (hu : Reads c u) (hr : Reads b rest)
       let es = laid (x .state .station) (x .state .inside) (suc p + size u) exit rest in
       let l = length-laid (x .state .station) (x .state .inside) (suc p + size u) exit rest in
       let k = length-bytes-of es in
-      rw (e1 .buffer) (length-written (x .buffer) (bytes-of es) (16 * (suc p + size u)) (omega (arith, a .room)))
+      rw (e1 .buffer) (length-written (x .buffer) (16 * (suc p + size u)) (bytes-of es) (omega (arith, a .room)))
 
   z3 : Laid
   z3 = lay-records places (flat u) z2

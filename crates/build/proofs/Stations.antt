@@ -19,7 +19,8 @@ use Rattle.reading.specs.Reading.{flat, flat-stations, flat-file, Proper, Stati
 use Rattle.built.proofs.Bytes.{length-bytes-of}
 use Rattle.built.proofs.Lengths.{length-laid, extent, length-bodies}
 use Rattle.laying.specs.Layout.{Laid, begun, stepped, turned, put-at, lay-record, lay-records, lay-inits}
-use Rattle.build.proofs.Written.{written-nothing, records-before, record-before, length-written}
+use Rattle.laws.proofs.Written.{written-none, length-written}
+use Rattle.build.proofs.Written.{records-before, record-before}
 use Rattle.build.proofs.Parts.{Fits, loops-of, Among, among-left, among-right}
 use Rattle.build.proofs.Records as records
 use Rattle.build.proofs.Backward.{over-append, Done, read-all}
@@ -117,7 +118,7 @@ module _ (places : List ℕ) (x : Statements) (stations : List Statements) (befo
       let es = stop ∷ bodies (suc j) (suc (p + size x)) stations in
       let l = length-bodies (suc j) (suc (p + size x)) stations in
       let k = length-bytes-of es in
-      ap length t-buffer ∙ length-written before (bytes-of es) (16 * (p + size x)) (omega arith)
+      ap length t-buffer ∙ length-written before (16 * (p + size x)) (bytes-of es) (omega arith)
 
   read : Laid
   read = lay-records places (flat x) t
@@ -285,7 +286,7 @@ module _ (places : List ℕ) (initial : List Record) (stations : List Statements
         second-length = refl;
         starts-length = refl;
         starts = λ k h. absurd (not-suc-le-zero h);
-        buffer = sym (written-nothing before (16 * (p + extent stations)));
+        buffer = sym (written-none before (16 * (p + extent stations)));
       }
 
   stood : Laid

@@ -4,7 +4,6 @@ use mathlib.Core.List.{List, map}
 use Prim.Native.Nat.{ℕ, _+_, _*_, _-_, _≤_, _<_}
 use native.Mathlib.Omega.{arith}
 use lib.ListN.{length, length-append}
-use borrow.Author.Tests.{ltb-false}
 use Rattle.rules.specs.Words.{written}
 use Rattle.rules.specs.Records.{Record, record-at, record-count}
 use Rattle.rules.specs.Trees.{Statements, initial-part, stations-of}
@@ -14,7 +13,7 @@ use Rattle.rules.specs.Check.{kinds, depth-place}
 use Rattle.laws.proofs.Places.{length-values}
 use Rattle.reading.specs.Reading.{flat-stations, flat-file}
 use Rattle.reading.specs.Accepted.{Accepted, Reads}
-use Rattle.reading.proofs.Passed.{passed, kinds-values}
+use Rattle.reading.proofs.Passed.{kinds-values}
 use Rattle.reading.proofs.One.{reading-is}
 use Rattle.built.proofs.Whole.{short-file}
 use Rattle.built.proofs.Lengths.{extent, extent-within, length-list}
@@ -43,7 +42,7 @@ module _ (file : List ℕ) (accepted : Accepted file) where
   never : too-deep-at 0 (map (λ (r : Record). r .kind) (flat-file initial stations)) ≡ length (flat-file initial stations)
   unfolding depth-place
   never =
-      let a = ltb-false (depth-place file) (record-count file) (passed file accepted .depth) in
+      let a = accepted .depth in
       let b = too-deep-within 0 (kinds file) in
       let c : length (kinds file) ≡ record-count file = length-values (λ i. record-at file i .kind) (record-count file) in
       let d : depth-place file ≡ record-count file = omega arith in

@@ -3,25 +3,17 @@ use mathlib.Core.Path.{_≡_, refl}
 use mathlib.Core.Bool.{true}
 use mathlib.Core.List.{List, [], _∷_, _++_, append-assoc}
 use Prim.Native.Nat.{ℕ, suc, _+_, _*_, _≤_}
-use native.Mathlib.Nat.{add-zero}
 use native.Mathlib.Omega.{arith}
 use lib.Dec.{leb}
-use lib.ListN.{length, take, drop, length-append, length-take, length-drop, take-append-drop}
+use lib.ListN.{length, take, drop, length-append, length-take}
 use lib.Seq.{take-append-le, take-take, drop-at}
 use borrow.Author.Tests.{le-leb}
 use Rattle.rules.specs.Words.{written}
 use Rattle.rules.specs.Records.{ListRecord}
 use Rattle.rules.specs.Build.{bytes-of}
 use Rattle.built.proofs.Bytes.{length-bytes-of}
+use Rattle.laws.proofs.Written.{length-written}
 use Rattle.laying.specs.Layout.{put-at}
-
-pub length-written : (buffer xs : List ℕ) (at : ℕ) → at + length xs ≤ length buffer → length (written buffer at xs) ≡ length buffer
-unfolding written
-length-written buffer xs at h = simp (length-append, length-take, length-drop) (omega arith)
-
-pub written-nothing : (buffer : List ℕ) (at : ℕ) → written buffer at [] ≡ buffer
-unfolding written
-written-nothing buffer at = rw add-zero (take-append-drop at buffer)
 
 -- what is written before is written in front
 pub written-beside : (buffer xs ys : List ℕ) (at : ℕ) → at + length xs + length ys ≤ length buffer
@@ -61,6 +53,6 @@ unfolding put-at bytes-of
 record-before buffer p e es h =
     let k = length-bytes-of es in
     let n : ℕ = length (written buffer (16 * suc p) (bytes-of es)) in
-    let l : n ≡ length buffer = length-written buffer (bytes-of es) (16 * suc p) (omega arith) in
+    let l : n ≡ length buffer = length-written buffer (16 * suc p) (bytes-of es) (omega arith) in
     let room : leb (16 * p + 16) n ≡ true = le-leb (16 * p + 16) n (omega arith) in
     rw room (records-before buffer p (suc p) (e ∷ []) es (omega arith) h)

@@ -1,6 +1,6 @@
 -- The list of an accepted file is as long as the document says, and it is sound. Assumes nothing.
-use mathlib.Core.Path.{_≡_, refl, sym, ap, _∙_}
-use mathlib.Core.Bool.{Bool, true, false, _||_, not}
+use mathlib.Core.Path.{sym, ap, _∙_}
+use mathlib.Core.Bool.{_||_, not}
 use mathlib.Core.List.{List}
 use Prim.Native.Nat.{ℕ, _+_, _*_, _%_, _≤_, _<_}
 use native.Mathlib.Omega.{arith}
@@ -13,10 +13,10 @@ use Rattle.rules.specs.Fields.{fields-right}
 use Rattle.rules.specs.Trees.{stations-of, initial-part}
 use Rattle.rules.specs.Build.{list-records}
 use Rattle.rules.specs.Check.{wrong-length, field-place}
+use Rattle.laws.proofs.Choice.{neither}
 use Rattle.laws.proofs.Places.{first-before, length-values}
 use Rattle.reading.specs.Reading.{flat-stations}
 use Rattle.reading.specs.Accepted.{Accepted, Reads}
-use Rattle.reading.proofs.Passed.{passed}
 use Rattle.reading.proofs.One.{reading-is}
 use Rattle.built.specs.Built.{Sound, Parted, steps-in, Long, Counted, Most}
 use Rattle.built.proofs.Along.{Along, all-values}
@@ -26,11 +26,6 @@ use Rattle.built.proofs.Right.{Good, Right}
 use Rattle.built.proofs.Stations.{right-list}
 use Rattle.built.proofs.Sound.{sound, stations-are, initials-are, at}
 
-either-right : (a b : Bool) → (a || b) ≡ false → b ≡ false
-either-right true true e = e
-either-right true false e = refl
-either-right false b e = e
-
 module _ (file : List ℕ) (accepted : Accepted file) where
   reads : Reads file
   reads = reading-is file accepted
@@ -39,7 +34,7 @@ module _ (file : List ℕ) (accepted : Accepted file) where
   pub short-file : record-count file ≤ max-records
   unfolding wrong-length
   short-file =
-      let a = either-right (not (eqb (length file % 8) 0) || eqb (length file) 0) (ltb (8 * max-records) (length file)) (passed file accepted .size) in
+      let a = neither (not (eqb (length file % 8) 0) || eqb (length file) 0) (ltb (8 * max-records) (length file)) (accepted .size) .1 in
       let b = ltb-false (8 * max-records) (length file) a in
       omega arith
 
@@ -83,7 +78,7 @@ module _ (file : List ℕ) (bytes : (i : ℕ) → getD file i 0 < 256) (accepted
   unfolding record-from field-place
   good i l =
       let at : ℕ = 8 * i + 4 in
-      let none = ltb-false (field-place file) (record-count file) (passed file accepted .fields) in
+      let none = accepted .fields in
       let right = first-before (λ j. not (fields-right (record-at file j))) (record-count file) i (omega arith) in
       record { fields = not-false _ right; k = omega (arith, bytes at, bytes (at + 1), bytes (at + 2), bytes (at + 3)) }
 

@@ -15,7 +15,7 @@ use Rattle.language.proofs.Meant.{ready-enabled, sound-standing, taken-moves}
 use Rattle.rules.specs.Calls.{ruled}
 use Rattle.rules.specs.History.{Call, Steps, top, history}
 use Rattle.history.specs.Back.{Made, by-start, by-step}
-use Rattle.history.proofs.Answers.{start-taken}
+use Rattle.laws.proofs.Answers.{start-can, start-state}
 use Rattle.history.proofs.Stack.{stack-facts}
 use Rattle.history.proofs.Back.{undo-below}
 use Rattle.demands.specs.Computation.{Starts, Computation}
@@ -24,9 +24,9 @@ module _ (file : List ℕ) (bytes : (i : ℕ) → getD file i 0 < 256) (accepted
   pub starting : (b : ℕ) (resets log : List ℕ) → start (built file) b resets log .number ≡ 0 → Starts file resets (start (built file) b resets log .state)
   unfolding started
   starting b resets log e =
-      let t = start-taken (built file) b resets log e in
+      let t = start-can (built file) b resets log e in
       let w = start-whole file bytes accepted b resets in
-      rw (t .state)
+      rw (start-state (built file) b resets log e)
       (record {
         initial = w .1;
         whole = w .0;

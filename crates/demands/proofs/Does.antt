@@ -4,15 +4,15 @@ use mathlib.Core.List.{List}
 use Prim.Native.Nat.{ℕ, _*_, _≤_, _<_}
 use native.Mathlib.Nat.{zero-add}
 use native.Mathlib.Omega.{arith}
-use borrow.Author.Tests.{eqb-true, eqb-false, eq-eqb, le-leb, le-ltb, ltb-true, ltb-false}
-use lib.Dec.{eqb, leb, ltb}
+use borrow.Author.Tests.{eqb-true, eqb-false, eq-eqb, ltb-true, ltb-false}
+use lib.Dec.{eqb, ltb}
 use lib.ListN.{length, drop, getD, take-append-drop, List·getD-eq-default}
 use lib.Seq.{take-at, drop-at, getD-set-same, getD-set-other, ext-getD}
 use lib.IntN.{pos}
-use Rattle.rules.specs.Words.{written, judge, refusal}
+use Rattle.rules.specs.Words.{written, refusal}
 use Rattle.rules.specs.Names.{max-stations}
 use Rattle.rules.specs.Records.{Pick}
-use Rattle.rules.specs.Check.{check, check-tests}
+use Rattle.rules.specs.Check.{check}
 use Rattle.rules.specs.Build.{Built, bytes-of, list-records, build}
 use Rattle.rules.specs.List.{stations}
 use Rattle.rules.specs.State.{State, position, priority}
@@ -21,26 +21,26 @@ use Rattle.rules.specs.Step.{stepped}
 use Rattle.rules.specs.Undo.{undo-tests, undo}
 use Rattle.rules.specs.Calls.{ruled}
 use Rattle.laws.proofs.Choice.{by-test}
-use Rattle.laws.proofs.Places.{each-all}
-use Rattle.laws.proofs.Judge.{judge-silent}
 use Rattle.reading.specs.Accepted.{Accepted}
 use Rattle.built.proofs.Bytes.{length-bytes-of}
-use Rattle.fair.proofs.Meaning.{sound-means, sound-list-means}
+use Rattle.laws.proofs.Sound.{sound-means}
+use Rattle.laws.proofs.Sound.{few-stations}
 use Rattle.fair.proofs.Begun.{start-priority, start-position, no-position, start-sound}
 use Rattle.fair.proofs.Charge.{rest-kept}
-use Rattle.fair.proofs.Taken.{step-taken, step-state}
+use Rattle.fair.proofs.Taken.{step-taken}
 use Rattle.fair.proofs.Held.{step-held}
 use Rattle.fair.proofs.Relation.{step-fair, update-only}
-use Rattle.history.proofs.Answers.{start-taken, step-left}
+use Rattle.laws.proofs.Passed.{start-passed}
+use Rattle.laws.proofs.Answers.{build-number, undo-number, start-number, start-can, start-state, start-written, step-state, step-written}
 use Rattle.demands.specs.Does.{Lays, BuildLays, StartTaken, Begins, StartBegins, Does, StepDoes, UndoReplays}
-use Rattle.demands.proofs.Order.{numbered, start-order, build-number, build-order, undo-number}
+use Rattle.demands.proofs.Order.{build-order}
+use Rattle.reading.proofs.Passed.{accepted-is}
 
 -- BUILD
 made-accepted : (file buffer : List ℕ) → build file buffer .number ≡ 0 → Accepted file
-unfolding check
 made-accepted file buffer e =
-    by-test (eqb (judge (check-tests file) .number) 0)
-    (λ y. judge-silent (check-tests file) (numbered file) (eqb-true _ 0 y))
+    by-test (eqb (check file .number) 0)
+    (λ y. accepted-is file .0 (eqb-true _ 0 y))
     (λ y. absurd (eqb-false _ 0 y (sym (rw y at (build-order file buffer .0)) ∙ e)))
 
 pub build-lays : BuildLays ruled
@@ -74,32 +74,30 @@ each-place n x y low high j =
 -- START
 pub start-when : StartTaken ruled
 start-when list b resets log = (
-  λ e. let t = start-taken list b resets log e in record { of-list = t .of-list; count = t .count; within = t .within; room = t .room },
-  λ c.
-      let right = each-all (λ j. leb (getD resets j 0) b) (length resets) (λ j l. le-leb (getD resets j 0) b (c .within j (omega (arith, c .count)))) in
-      start-order list b resets log
-      ∙ rw (c .of-list, eq-eqb (length resets) (stations list) (c .count), right, le-ltb (length log) (2 * stations list) (c .room)),
+  start-can list b resets log,
+  λ c. start-number list b resets log ∙ start-passed list b resets log .1 c,
 )
 
 pub start-begins : StartBegins ruled
 unfolding started
 start-begins list b resets log e =
-    let t = start-taken list b resets log e in
+    let t = start-can list b resets log e in
+    let state = start-state list b resets log e in
     let past : (j : ℕ) → stations list ≤ j → getD resets j 0 ≡ 0 = λ j l. List·getD-eq-default resets 0 (omega (arith, t .count)) in (
       record {
         held = start-sound list b resets log e .1;
-        vars = rw (t .state);
-        positions = λ j l. rw (t .state) (start-position list b resets j l);
-        priorities = λ j l. rw (t .state) (start-priority list b resets j);
+        vars = rw state;
+        positions = λ j l. rw state (start-position list b resets j l);
+        priorities = λ j l. rw state (start-priority list b resets j);
         rest = λ j l. (
-          rw (t .state) (no-position list b resets j l),
-          rw (t .state) (start-priority list b resets j ∙ ap pos (past j l)),
+          rw state (no-position list b resets j l),
+          rw state (start-priority list b resets j ∙ ap pos (past j l)),
         );
-        n-is = rw (t .state);
-        b-is = rw (t .state);
-        m-is = rw (t .state);
+        n-is = rw state;
+        b-is = rw state;
+        m-is = rw state;
       },
-      t .left,
+      start-written list b resets log e,
     )
 
 pub begins-only : {list : List ℕ} {b : ℕ} {resets : List ℕ} {s t : State} → Begins list b resets s → Begins list b resets t → s ≡ t
@@ -121,7 +119,7 @@ step-does list s log p held e =
     let t = step-state list s log p e in
     let (can, c, r) = step-taken list s log p .0 e in
     let there : p .station < length (s .positions) =
-    omega (arith, c .station, held .positions, sound-list-means list (can .of-list) .few-stations, sound-means list s .0 (can .of-state) .of-list) in (
+    omega (arith, c .station, held .positions, few-stations list (can .of-list), sound-means list s .0 (can .of-state) .of-list) in (
       record {
         held = step-held list s log p held;
         chosen = f .0;
@@ -136,7 +134,7 @@ step-does list s log p held e =
         b-is = rw t;
         m-is = rw t;
       },
-      step-left list s log p e,
+      step-written list s log p e,
     )
 
 pub does-only : {list : List ℕ} {s : State} {p : Pick} {t u : State} → Does list s p t → Does list s p u → t ≡ u

@@ -23,7 +23,8 @@ use Rattle.rules.specs.State.{State, zeros, priority, few-low, empty-at, sound-
 use Rattle.rules.specs.Values.{set-value, holds}
 use Rattle.rules.specs.Start.{initial-run, started, start-records, Started, start}
 use Rattle.rules.specs.Ready.{ended, waiting, ready, lowest}
-use Rattle.rules.specs.Step.{body-run, step-vars, step-position, charge, stepped, Stepped, step}
+use Rattle.rules.specs.Move.{body-run, step-vars, step-position}
+use Rattle.rules.specs.Step.{charge, stepped, picked, Stepped, step}
 use Rattle.rules.specs.Run.{Ran, steps-from, run}
 use Rattle.rules.specs.Undo.{Undone}
 use Rattle.rules.specs.Lights.{reads, writes, led-to, body, some-of, touches, Lights, lights}
@@ -159,7 +160,7 @@ record Computed : Type 0 where
   two-count : build two-skips (replicate 64 9) .count ≡ 4
 
 computed : Computed
-unfolding each first tally mask values changed written judge record-from list-record-at rules-of fields-right stride wrong-at walked well-shaped too-deep-at check wrong-length field-place station-count depth-place parts-of stations-of leading-sets initial-part size laid inits bodies list-of bytes-of build stations initials is-at init-right initial-right outside-targets inside-targets later-right sound-list few-low empty-at sound-state set-value holds initial-run started start-records start ended waiting ready lowest body-run step-vars step-position charge stepped step steps-from run reads writes led-to body some-of touches lights
+unfolding each first tally mask values changed written judge record-from list-record-at rules-of fields-right stride wrong-at walked well-shaped too-deep-at check wrong-length field-place station-count depth-place parts-of stations-of leading-sets initial-part size laid inits bodies list-of bytes-of build stations initials is-at init-right initial-right outside-targets inside-targets later-right sound-list few-low empty-at sound-state set-value holds initial-run started start-records start ended waiting ready lowest body-run step-vars step-position charge stepped picked step steps-from run reads writes led-to body some-of touches lights
 computed =
     record {
       begins = refl;
@@ -317,7 +318,7 @@ module _ (bench : Seven) (two : Demand2 bench) where
       d .priorities .stays j l (λ same. false≢true (sym r ∙ rw same (d .chosen .enabled))) r
 
 not-ready : (list : List ℕ) (s : State) (j : ℕ) → waiting list s j ≡ true → ready list s j ≡ false
-unfolding ready
+unfolding ready waiting
 not-ready list s j w = rw (w, and-false)
 
 pub by-demand-2 : ByDemand2

@@ -4,24 +4,22 @@ use mathlib.Core.Logic.{_≢_}
 use mathlib.Core.Bool.{Bool, true, false}
 use mathlib.Core.List.{List, [], _∷_}
 use Prim.Native.Nat.{ℕ, _*_}
-use native.Mathlib.Omega.{arith}
 use lib.Dec.{eqb, ltb}
 use lib.ListN.{length}
 use borrow.Author.Tests.{eqb-true, eqb-false, ne-eqb}
 use Rattle.rules.specs.Words.{if_then_else_, Answer, Test, _refuses_at_, judge, refusal}
 use Rattle.rules.specs.Names.{ROOM}
-use Rattle.rules.specs.Records.{Pick}
 use Rattle.rules.specs.Check.{check, check-tests}
-use Rattle.rules.specs.Build.{list-records, build-tests, build}
-use Rattle.rules.specs.State.{State}
-use Rattle.rules.specs.Start.{start-tests, start}
-use Rattle.rules.specs.Step.{step-tests, step}
-use Rattle.rules.specs.Undo.{undo-tests, undo}
-use Rattle.rules.specs.Lights.{lights-tests, lights}
+use Rattle.rules.specs.Build.{list-records, room-tests, build-tests, build}
+use Rattle.rules.specs.Start.{start}
+use Rattle.rules.specs.Step.{step}
+use Rattle.rules.specs.Undo.{undo}
+use Rattle.rules.specs.Lights.{lights}
 use Rattle.rules.specs.Calls.{ruled}
 use Rattle.grammar.proofs.Meant.{check-fault, check-shaped, check-deep}
 use Rattle.laws.proofs.Choice.{by-test, if-yes, if-no}
-use Rattle.laws.proofs.Judge.{Numbered, judge-silent, judge-then, judge-before}
+use Rattle.laws.proofs.Judge.{unrefused, judge-silent, judge-then, judge-before}
+use Rattle.laws.proofs.Answers.{build-number, start-number, step-number, undo-number, lights-number}
 use Rattle.demands.specs.Order.{CheckOrder, CheckShapes, BuildOrder, StartOrder, StepOrder, UndoOrder, LightsOrder, RefusalLeaves}
 
 -- the number of tests made in order, one test at a time
@@ -29,12 +27,6 @@ pub judge-number : (b : Bool) (n p : ℕ) (ts : List Test) → judge ((b refuses
 unfolding judge
 judge-number true n p ts = refl
 judge-number false n p ts = refl
-
-pub numbered : (file : List ℕ) → Numbered (check-tests file)
-numbered file = (omega arith, (omega arith, (omega arith, (omega arith, (omega arith, tt)))))
-
-abbrev room-test : List ℕ → List ℕ → List Test
-room-test file buffer = (ltb (length buffer) (16 * length (list-records file)) refuses ROOM at 0) ∷ []
 
 pub check-order : CheckOrder ruled
 unfolding check judge
@@ -44,43 +36,21 @@ pub check-shapes : CheckShapes ruled
 check-shapes file three =
     record { fault = check-fault file three; shaped = check-shaped file three; deep = check-deep file three }
 
-pub start-number : (list : List ℕ) (b : ℕ) (resets log : List ℕ) → start list b resets log .number ≡ refusal (start-tests list b resets log)
-unfolding start
-start-number list b resets log =
-    by-test (eqb (refusal (start-tests list b resets log)) 0) (λ e. rw e (sym (eqb-true _ 0 e))) (λ e. rw e)
-
 pub start-order : StartOrder ruled
 unfolding judge
 start-order list b resets log = start-number list b resets log ∙ simp judge-number
-
-pub step-number : (list : List ℕ) (s : State) (log : List ℕ) (p : Pick) → step list s log p .number ≡ refusal (step-tests list s log p)
-unfolding step
-step-number list s log p =
-    by-test (eqb (refusal (step-tests list s log p)) 0) (λ e. rw e (sym (eqb-true _ 0 e))) (λ e. rw e)
 
 pub step-order : StepOrder ruled
 unfolding judge
 step-order list s log p = step-number list s log p ∙ simp judge-number
 
-pub undo-number : (list : List ℕ) (s : State) (log : List ℕ) → undo list s log .number ≡ refusal (undo-tests list s log)
-unfolding undo
-undo-number list s log = by-test (eqb (refusal (undo-tests list s log)) 0) (λ e. rw e (sym (eqb-true _ 0 e))) (λ e. rw e)
-
 pub undo-order : UndoOrder ruled
 unfolding judge
 undo-order list s log = undo-number list s log ∙ simp judge-number
 
-pub lights-number : (list : List ℕ) (s : State) → lights list s .number ≡ refusal (lights-tests list s)
-unfolding lights
-lights-number list s = by-test (eqb (refusal (lights-tests list s)) 0) (λ e. rw e (sym (eqb-true _ 0 e))) (λ e. rw e)
-
 pub lights-order : LightsOrder ruled
 unfolding judge
 lights-order list s = lights-number list s ∙ simp judge-number
-
-pub build-number : (file buffer : List ℕ) → build file buffer .number ≡ refusal (build-tests file buffer)
-unfolding build
-build-number file buffer = by-test (eqb (refusal (build-tests file buffer)) 0) (λ e. rw e (sym (eqb-true _ 0 e))) (λ e. rw e)
 
 room-number : (b : Bool) → judge ((b refuses ROOM at 0) ∷ []) .number ≡ (if b then 6 else 0)
 unfolding judge
@@ -95,21 +65,18 @@ room-place false = refl
 
 module _ (file buffer : List ℕ) where
   -- build's tests where check refuses nothing, and where it refuses
-  room-only : judge (check-tests file) .number ≡ 0 → judge (build-tests file buffer) ≡ judge (room-test file buffer)
-  room-only none = judge-then (check-tests file) (room-test file buffer) (numbered file) none
+  room-only : refusal (check-tests file) ≡ 0 → judge (build-tests file buffer) ≡ judge (room-tests file buffer)
+  room-only none = judge-then (check-tests file) (room-tests file buffer) (unrefused (check-tests file) refl .0 none)
 
-  check-first : judge (check-tests file) .number ≢ 0 → judge (build-tests file buffer) ≡ judge (check-tests file)
-  check-first refused = judge-before (check-tests file) (room-test file buffer) refused
+  check-first : refusal (check-tests file) ≢ 0 → judge (build-tests file buffer) ≡ judge (check-tests file)
+  check-first refused = judge-before (check-tests file) (room-tests file buffer) refused
 
   build-place : build file buffer .place ≡ judge (build-tests file buffer) .place
   unfolding build
   build-place =
-      by-test (eqb (judge (build-tests file buffer) .number) 0)
-      (λ e. rw e (sym (ap (λ (a : Answer). a .place) (judge-silent (build-tests file buffer) all-numbered (eqb-true _ 0 e)))))
+      by-test (eqb (refusal (build-tests file buffer)) 0)
+      (λ e. rw (e, judge-silent (build-tests file buffer) (unrefused (build-tests file buffer) refl .0 (eqb-true _ 0 e))))
       (λ e. rw e)
-    where
-      all-numbered : Numbered (build-tests file buffer)
-      all-numbered = (omega arith, (omega arith, (omega arith, (omega arith, (omega arith, (omega arith, tt))))))
 
 pub build-order : BuildOrder ruled
 unfolding check
@@ -120,7 +87,7 @@ build-order file buffer =
       build-number file buffer ∙ ap (λ (a : Answer). a .number) same ∙ room-number (ltb (length buffer) (16 * length (list-records file)))
           ∙ sym (if-yes _ _ e),
       build-place file buffer ∙ ap (λ (a : Answer). a .place) same ∙ room-place (ltb (length buffer) (16 * length (list-records file)))
-          ∙ sym (ap (λ (a : Answer). a .place) (judge-silent (check-tests file) (numbered file) (eqb-true _ 0 e))),
+          ∙ sym (ap (λ (a : Answer). a .place) (judge-silent (check-tests file) (unrefused (check-tests file) refl .0 (eqb-true _ 0 e)))),
     ))
     (λ e.
     let same = check-first file buffer (eqb-false _ 0 e) in (

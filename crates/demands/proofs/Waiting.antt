@@ -21,9 +21,11 @@ use Rattle.rules.specs.State.{zeros, priority, few-low, empty-at, sound-state}
 use Rattle.rules.specs.Values.{set-value, holds}
 use Rattle.rules.specs.Start.{initial-run, started, start-records, start}
 use Rattle.rules.specs.Ready.{ended, waiting, ready, lowest}
-use Rattle.rules.specs.Step.{body-run, step-vars, step-position, charge, stepped, step}
+use Rattle.rules.specs.Move.{body-run, step-vars, step-position}
+use Rattle.rules.specs.Step.{charge, stepped, picked, step}
 use Rattle.rules.specs.History.{Call, CHECK, BUILD, START, STEP, RUN, UNDO, LIGHTS, Steps, begun, Now, stepped-on, single-steps, called, calls-from, history}
 use Rattle.reading.specs.Accepted.{Accepted}
+use Rattle.reading.proofs.Passed.{accepted-is}
 use Rattle.built.specs.Built.{built}
 use Rattle.demands.specs.Frauds.{charging, WaitingBreaks, idle, IdleBounds}
 
@@ -53,8 +55,8 @@ record Computed : Type 0 where
   low : tally (λ j. leZ (priority (now .state) j) (negℤ (pos 2))) (stations (built file)) ≡ 1
 
 computed : Computed
-unfolding each first tally values changed written judge record-from list-record-at rules-of fields-right stride wrong-at walked well-shaped too-deep-at check wrong-length field-place station-count depth-place parts-of stations-of leading-sets initial-part size laid inits bodies list-of bytes-of stations initials is-at init-right initial-right outside-targets inside-targets later-right sound-list few-low empty-at sound-state set-value holds initial-run started start-records start ended waiting ready lowest body-run step-vars step-position charge stepped step stepped-on called calls-from
-computed = record { accepted = refl; stands = refl; two = refl; low = refl }
+unfolding each first tally values changed written judge record-from list-record-at rules-of fields-right stride wrong-at walked well-shaped too-deep-at check wrong-length field-place station-count depth-place parts-of stations-of leading-sets initial-part size laid inits bodies list-of bytes-of stations initials is-at init-right initial-right outside-targets inside-targets later-right sound-list few-low empty-at sound-state set-value holds initial-run started start-records start ended waiting ready lowest body-run step-vars step-position charge stepped picked step stepped-on called calls-from
+computed = record { accepted = accepted-is file .0 refl; stands = refl; two = refl; low = refl }
 
 pub waiting-breaks : WaitingBreaks
 waiting-breaks bounds =

@@ -17,11 +17,13 @@ use Rattle.rules.specs.State.{few-low, empty-at, sound-state}
 use Rattle.rules.specs.Values.{set-value, holds}
 use Rattle.rules.specs.Start.{initial-run, started, start-records, start}
 use Rattle.rules.specs.Ready.{ended, waiting, ready, lowest}
-use Rattle.rules.specs.Step.{body-run, step-vars, step-position, charge, stepped, step}
+use Rattle.rules.specs.Move.{body-run, step-vars, step-position}
+use Rattle.rules.specs.Step.{charge, stepped, picked, step}
 use Rattle.rules.specs.Run.{steps-from, run}
 use Rattle.rules.specs.Undo.{replay, starts-right, replayed, undo}
 use Rattle.rules.specs.History.{stepped-on, single-steps, called, calls-from}
 use Rattle.rules.specs.Passed.{passed-over}
+use Rattle.reading.proofs.Passed.{accepted-is}
 use Rattle.laws.proofs.Choice.{by-test}
 use Rattle.laws.proofs.Places.{each-at}
 use Rattle.demands.specs.Demands.{Bytes}
@@ -37,11 +39,11 @@ pair-bytes i =
     (λ y. let e : getD pair i 0 ≡ 0 = List·getD-eq-default pair 0 {n = i} (ltb-false i 64 y) in omega (arith, e))
 
 pub met : Met
-unfolding each first tally mask values changed written judge record-from list-record-at rules-of fields-right stride wrong-at walked well-shaped too-deep-at check wrong-length field-place station-count depth-place parts-of stations-of leading-sets initial-part size laid inits bodies list-of bytes-of stations initials is-at init-right initial-right outside-targets inside-targets later-right sound-list few-low empty-at sound-state set-value holds initial-run started start-records start ended waiting ready lowest body-run step-vars step-position charge stepped step steps-from run replay starts-right replayed undo stepped-on single-steps called calls-from passed-over
+unfolding each first tally mask values changed written judge record-from list-record-at rules-of fields-right stride wrong-at walked well-shaped too-deep-at check wrong-length field-place station-count depth-place parts-of stations-of leading-sets initial-part size laid inits bodies list-of bytes-of stations initials is-at init-right initial-right outside-targets inside-targets later-right sound-list few-low empty-at sound-state set-value holds initial-run started start-records start ended waiting ready lowest body-run step-vars step-position charge stepped picked step steps-from run replay starts-right replayed undo stepped-on single-steps called calls-from passed-over
 met =
     record {
       bytes = pair-bytes;
-      accepted = refl;
+      accepted = accepted-is pair .0 refl;
       refused = refl;
       stood = refl;
       stepped-there = refl;

@@ -17,8 +17,9 @@ use Rattle.reading.proofs.One.{reading-is, reading-only}
 use Rattle.built.specs.Built.{built}
 use Rattle.built.proofs.Targets.{list-targets, closing}
 use Rattle.built.proofs.Whole.{built-sound, built-parts}
-use Rattle.fair.specs.Taken.{CanStep}
-use Rattle.fair.proofs.Taken.{step-taken, step-state}
+use Rattle.laws.specs.Passed.{CanStep}
+use Rattle.laws.proofs.Answers.{step-state}
+use Rattle.fair.proofs.Taken.{step-taken}
 use Rattle.language.specs.Language.{Program, Moves, parallel-rule}
 use Rattle.language.specs.Rests.{stands-for}
 use Rattle.language.specs.Claims.{Standing, programs}

@@ -2,7 +2,6 @@
 -- claims, and proofs/Does.antt shows the claims of the rules' calls.
 use mathlib.Core.Path.{_≡_}
 use mathlib.Core.Logic.{_↔_}
-use mathlib.Core.Bool.{true}
 use mathlib.Core.List.{List}
 use Prim.Native.Nat.{ℕ, _+_, _*_, _≤_, _<_}
 use lib.Dec.{eqb}
@@ -12,13 +11,14 @@ use Rattle.rules.specs.Words.{if_then_else_, written}
 use Rattle.rules.specs.Names.{variables}
 use Rattle.rules.specs.Records.{list-record-at, Pick, pick-bytes}
 use Rattle.rules.specs.Build.{Built, list-records}
-use Rattle.rules.specs.List.{stations, initials, sound-list}
+use Rattle.rules.specs.List.{stations, initials}
 use Rattle.rules.specs.State.{State, position, priority}
 use Rattle.rules.specs.Start.{initial-run, start-records}
 use Rattle.rules.specs.Ready.{next-step, ready}
-use Rattle.rules.specs.Step.{step-vars, step-position}
+use Rattle.rules.specs.Move.{step-vars, step-position}
 use Rattle.rules.specs.Undo.{replayed}
 use Rattle.rules.specs.Calls.{Seven}
+use Rattle.laws.specs.Passed.{CanStart}
 use Rattle.reading.specs.Accepted.{Accepted}
 use Rattle.built.specs.Built.{built}
 use Rattle.fair.specs.Fair.{Sch, Update}
@@ -34,13 +34,7 @@ pub record Lays (file buffer : List ℕ) (a : Built) : Type 0 where
 abbrev pub BuildLays : Seven → Type 0
 BuildLays bench = (file buffer : List ℕ) → bench .build file buffer .number ≡ 0 → Lays file buffer (bench .build file buffer)
 
--- START takes a sound list, "exactly n reset bytes", none above B, and a log with room for the start records
-pub record CanStart (list : List ℕ) (b : ℕ) (resets log : List ℕ) : Type 0 where
-  pub of-list : sound-list list ≡ true
-  pub count : length resets ≡ stations list
-  pub within : (j : ℕ) → j < stations list → getD resets j 0 ≤ b
-  pub room : 2 * stations list ≤ length log
-
+-- START takes what it needs, and nothing else
 abbrev pub StartTaken : Seven → Type 0
 StartTaken bench = (list : List ℕ) (b : ℕ) (resets log : List ℕ) → (bench .start list b resets log .number ≡ 0) ↔ CanStart list b resets log
 

@@ -15,7 +15,8 @@ use Rattle.rules.specs.Names.{LENGTH, LIST}
 use Rattle.rules.specs.Records.{Pick, pick-at}
 use Rattle.rules.specs.State.{State, zeros, priority}
 use Rattle.rules.specs.Ready.{ended, waiting, ready}
-use Rattle.rules.specs.Step.{charged, Stepped, step}
+use Rattle.rules.specs.Turn.{charged}
+use Rattle.rules.specs.Step.{Stepped, step}
 use Rattle.rules.specs.Lights.{Lights, dark}
 use Rattle.rules.specs.Calls.{Seven, ruled}
 use Rattle.rules.specs.History.{Call, UNDO, Steps, taken, history}

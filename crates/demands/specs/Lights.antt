@@ -12,7 +12,7 @@ use Rattle.rules.specs.Lights.{Lights}
 use Rattle.rules.specs.Calls.{Seven}
 use Rattle.rules.specs.History.{Call, Steps, Now, history}
 use Rattle.lit.specs.Lit.{bit, Shows}
-use Rattle.fair.specs.Taken.{CanStep}
+use Rattle.laws.specs.Passed.{CanStep}
 use Rattle.history.specs.Back.{below}
 
 -- the stations in turn are those of which a step with an allowed reset is taken

@@ -18,7 +18,7 @@ use Rattle.reading.specs.Reading.{flat-file, Sets, Stations}
 use Rattle.reading.specs.Accepted.{Reads}
 use Rattle.built.specs.Built.{built, Sound}
 use Rattle.built.specs.Targets.{Spot, Has, Targets, Closing}
-use Rattle.fair.specs.Taken.{CanStep}
+use Rattle.laws.specs.Passed.{CanStep}
 use Rattle.language.specs.Language.{Program, component, Moves, Enabled}
 use Rattle.language.specs.Claims.{StopEnds, InitWhole, BodyRuns, SoundStanding, programs, ReadyEnabled, StationMoves}
 use Rattle.demands.specs.Computation.{Starts, Computation}

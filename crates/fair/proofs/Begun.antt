@@ -1,26 +1,27 @@
 -- The state that a start gives is sound: every number is a reset, so none is low. Assumes nothing.
-use mathlib.Core.Path.{_≡_, refl, sym, _∙_}
-use mathlib.Core.Bool.{Bool, true, false, _&&_, _||_, true≢false}
+use mathlib.Core.Path.{_≡_, refl, _∙_}
+use mathlib.Core.Bool.{true, _&&_}
 use mathlib.Core.List.{List, [], _∷_, _++_, map}
 use Prim.Native.Nat.{ℕ, zero, suc, _-_, _≤_, _<_}
 use native.Mathlib.Omega.{arith}
-use borrow.Author.Tests.{eqb-true, eq-eqb, leb-true, le-leb, not-false}
+use borrow.Author.Tests.{le-leb}
 use lib.Dec.{eqb}
 use lib.ListN.{length, getD, replicate, List·getD-map, List·getD-eq-default}
 use lib.IntN.{pos}
-use Rattle.rules.specs.Words.{values, refusal}
+use Rattle.rules.specs.Words.{values}
 use Rattle.rules.specs.Names.{max-stations}
 use Rattle.rules.specs.Records.{list-record-at}
 use Rattle.rules.specs.List.{stations, outside, init-right, sound-list}
 use Rattle.rules.specs.State.{position, priority, few-low, empty-at}
-use Rattle.rules.specs.Start.{started, Started, start-tests, start}
+use Rattle.rules.specs.Start.{started}
 use Rattle.laws.proofs.Choice.{both-left, both-right}
-use Rattle.laws.proofs.Places.{each-at, length-values, getD-values}
+use Rattle.laws.proofs.Places.{length-values, getD-values}
 use Rattle.fair.specs.Sound.{StartSound}
 use Rattle.fair.proofs.Order.{low}
-use Rattle.fair.proofs.Counts.{tally-none}
-use Rattle.fair.proofs.Meaning.{Sound, sound-means, sound-list-means}
-use Rattle.fair.proofs.Tests.{unrefused, answer-number}
+use Rattle.laws.proofs.Counts.{tally-none}
+use Rattle.laws.proofs.Sound.{Sound, sound-means}
+use Rattle.laws.proofs.Sound.{inits-right}
+use Rattle.laws.proofs.Answers.{start-can, start-state}
 use Rattle.fair.proofs.Held.{started-held}
 
 -- a list with its default after it
@@ -59,7 +60,7 @@ module _ (list : List ℕ) (b : ℕ) (resets : List ℕ) where
       let e = list-record-at list j in
       rw (start-position j l)
       (both-right (eqb (e .own .a) j && eqb (e .own .b) 0 && eqb (e .own .op) 0 && eqb (e .own .k) 0 && eqb (e .station) j && eqb (e .inside) 0) _
-      (both-left _ (eqb (e .t2) 0) (both-left _ (eqb (e .spare) 0) (sound-list-means list h .inits j l))))
+      (both-left _ (eqb (e .t2) 0) (both-left _ (eqb (e .spare) 0) (inits-right list h j l))))
 
   started-empty : length resets ≡ stations list → (j : ℕ) → stations list ≤ j → empty-at (started list b resets) j ≡ true
   unfolding empty-at
@@ -80,21 +81,10 @@ module _ (list : List ℕ) (b : ℕ) (resets : List ℕ) where
         empty = λ j l below. started-empty n j l;
       }
 
--- neither of two tests
-neither : (a c : Bool) → (a || c) ≡ false → (a ≡ false) × (c ≡ false)
-neither true c h = absurd (true≢false h)
-neither false c h = (refl, h)
-
 pub start-sound : StartSound
-unfolding start
 start-sound list b resets log h =
-    let tests = start-tests list b resets log in
-    let none = sym (answer-number (λ (a : Started). a .number) (refusal tests) _ _ refl refl) ∙ h in
-    let t = unrefused tests refl .0 none in
-    let sound = not-false (sound-list list) (t .0) in
-    let (count, each-within) = neither _ _ (t .1 .0) in
-    let n = eqb-true (length resets) (stations list) (not-false _ count) in
-    let r : (j : ℕ) → j < stations list → getD resets j 0 ≤ b =
-    λ j l. leb-true (getD resets j 0) b (each-at _ (length resets) (not-false _ each-within) j (omega arith)) in
-    rw (eq-eqb (refusal tests) 0 none)
-    (sound-means list (started list b resets) .1 (started-sound list b resets sound n r), started-held list b resets sound n)
+    let can = start-can list b resets log h in
+    rw (start-state list b resets log h) (
+      sound-means list (started list b resets) .1 (started-sound list b resets (can .of-list) (can .count) (can .within)),
+      started-held list b resets (can .of-list) (can .count),
+    )

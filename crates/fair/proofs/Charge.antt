@@ -11,12 +11,13 @@ use lib.Signed.{leZ}
 use Rattle.rules.specs.Records.{Pick}
 use Rattle.rules.specs.State.{State, priority, few-low}
 use Rattle.rules.specs.Ready.{ready}
-use Rattle.rules.specs.Step.{charged, charge, stepped}
+use Rattle.rules.specs.Turn.{charged}
+use Rattle.rules.specs.Step.{charge, stepped}
 use Rattle.laws.proofs.Choice.{by-test}
 use Rattle.fair.specs.Fair.{Inv}
 use Rattle.fair.specs.Charged.{Chosen, FewLowKept, AboveLow, BoundKept, RestKept, LengthKept}
 use Rattle.fair.proofs.Order.{low, low-loses, loses-within}
-use Rattle.fair.proofs.Changed.{length-changed, changed-past, changed-has}
+use Rattle.laws.proofs.Changed.{length-changed, changed-past, changed-has}
 use Rattle.fair.proofs.Invariant.{Falls, inv-kept, inv-above}
 
 module _ (list : List ℕ) (s : State) (p : Pick) where

@@ -13,13 +13,14 @@ use Rattle.rules.specs.List.{stations, initials, sound-list}
 use Rattle.rules.specs.State.{State}
 use Rattle.rules.specs.Values.{assigned}
 use Rattle.rules.specs.Start.{initial-run, started}
-use Rattle.rules.specs.Step.{vars-after, target-after, body-run, step-vars, stepped, step}
+use Rattle.rules.specs.Move.{vars-after, target-after, body-run, step-vars}
+use Rattle.rules.specs.Step.{stepped, step}
 use Rattle.laws.proofs.Choice.{by-test}
 use Rattle.laws.proofs.Places.{length-values}
 use Rattle.fair.specs.Sound.{Held, StepHeld}
 use Rattle.fair.proofs.Charge.{length-kept}
-use Rattle.fair.proofs.Meaning.{sound-list-means}
-use Rattle.fair.proofs.Taken.{step-state, step-refused}
+use Rattle.laws.proofs.Sound.{few-stations}
+use Rattle.laws.proofs.Answers.{step-state, step-refused}
 
 length-after : (vars : List ℕ) (r : Record) → length (vars-after vars r) ≡ length vars
 length-after vars r = by-test (eqb (r .kind) SET) (λ e. rw e (length-set vars (r .a) _)) (λ e. rw e)
@@ -64,7 +65,7 @@ pub started-held : (list : List ℕ) (b : ℕ) (resets : List ℕ) → sound-lis
     → Held (started list b resets)
 unfolding started
 started-held list b resets h n =
-    let few = sound-list-means list h .few-stations in
+    let few = few-stations list h in
     record {
       vars = length-initial list (stations list) (initials list) (replicate variables 0);
       positions = simp (length-append, length-values, length-replicate) (omega arith);

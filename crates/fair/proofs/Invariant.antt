@@ -10,7 +10,7 @@ use Rattle.laws.proofs.Choice.{by-test}
 use Rattle.laws.proofs.Places.{tally-within}
 use Rattle.fair.specs.Fair.{Sch, Inv}
 use Rattle.fair.proofs.Order.{low, low-more, leZ-trans}
-use Rattle.fair.proofs.Counts.{tally-within-other, tally-less}
+use Rattle.laws.proofs.Counts.{tally-within-other, tally-less}
 
 -- how the numbers of n stations may fall when station i is picked: its own is not negative, and one that is low is a ready station's that
 -- was one step less low, or was as low before

@@ -1,29 +1,28 @@
--- A step keeps a state sound, and so do the steps of a run. Assumes nothing.
+-- A step keeps a state sound, and so does a pick alone. Assumes nothing.
 use mathlib.Core.Path.{_≡_, refl}
 use mathlib.Core.Bool.{true, false}
 use mathlib.Core.List.{List, [], _∷_}
-use Prim.Native.Nat.{ℕ, zero, suc, _/_, min, _≤_, _<_}
+use Prim.Native.Nat.{ℕ, zero, suc, _≤_, _<_}
 use native.Mathlib.Omega.{arith}
 use borrow.Author.Tests.{eqb-true, not-true}
 use lib.Dec.{eqb}
-use lib.ListN.{length, getD, set}
+use lib.ListN.{getD, set}
 use lib.Seq.{getD-set-other}
-use Rattle.rules.specs.Words.{refusal}
 use Rattle.rules.specs.Names.{STOP, max-stations, max-steps}
-use Rattle.rules.specs.Records.{Pick, pick-at}
+use Rattle.rules.specs.Records.{Pick}
 use Rattle.rules.specs.List.{sound-list, outside}
 use Rattle.rules.specs.State.{State, position, empty-at, sound-state}
 use Rattle.rules.specs.Ready.{next-step, ended, ready}
-use Rattle.rules.specs.Step.{stepped, step}
-use Rattle.rules.specs.Run.{steps-from, run-tests, run}
+use Rattle.rules.specs.Step.{stepped, picked, step}
+use Rattle.laws.specs.Passed.{Known}
 use Rattle.laws.proofs.Choice.{by-test, both-left}
 use Rattle.fair.specs.Charged.{Chosen}
-use Rattle.fair.specs.Sound.{Held, StepSound, RunSound, RunHeld}
+use Rattle.fair.specs.Sound.{StepSound}
 use Rattle.fair.proofs.Charge.{few-low-kept, bound-kept, rest-kept}
-use Rattle.fair.proofs.Meaning.{Sound, sound-means}
+use Rattle.laws.proofs.Sound.{Sound, sound-means}
 use Rattle.fair.proofs.Targets.{position-outside}
-use Rattle.fair.proofs.Held.{step-held}
-use Rattle.fair.proofs.Taken.{step-taken, step-state, step-refused}
+use Rattle.laws.proofs.Answers.{picked-can, picked-state, picked-leaves, step-state, step-refused}
+use Rattle.fair.proofs.Taken.{pick-allowed, step-taken}
 
 -- an entry of a list in which one was set has what the one set has and what it had itself
 set-has : {A : Type 0} (P : A → Type 0) (xs : List A) (i : ℕ) (x : A) (j : ℕ) (d : A)
@@ -68,6 +67,18 @@ module _ (list : List ℕ) (s : State) (p : Pick) (h : sound-list list ≡ true)
         empty = empty;
       }
 
+-- taken or refused, a pick answers a sound state
+pub picked-sound : (list : List ℕ) (s : State) (p : Pick) → Known list s → s .m < max-steps
+    → sound-state list (picked list s p .state) ≡ true
+picked-sound list s p known m =
+    by-test (eqb (picked list s p .number) 0)
+    (λ e.
+    let n = eqb-true _ 0 e in
+    let (c, r) = pick-allowed list s p .0 (picked-can list s p n) in
+    rw (picked-state list s p n)
+    (sound-means list (stepped list s p) .1 (stepped-sound list s p (known .of-list) (sound-means list s .0 (known .of-state)) c r m)))
+    (λ e. rw (picked-leaves list s p e) (known .of-state))
+
 pub step-sound : StepSound
 step-sound list s log p h =
     by-test (eqb (step list s log p .number) 0)
@@ -78,27 +89,3 @@ step-sound list s log p h =
     (sound-means list (stepped list s p) .1
     (stepped-sound list s p (can .of-list) (sound-means list s .0 h) c r (can .steps-left))))
     (λ e. rw (step-refused list s log p e) h)
-
--- what every step keeps, taken or refused, a run keeps
-module _ (list : List ℕ) (P : State → Type 0) (kept : (s : State) (log : List ℕ) (p : Pick) → P s → P (step list s log p .state)) where
-  steps-keep : (picks : List ℕ) (i count : ℕ) (s : State) (log : List ℕ) → P s → P (steps-from list picks i count s log .state)
-  unfolding steps-from
-  steps-keep picks i zero s log h = h
-  steps-keep picks i (suc count) s log h =
-      let a = step list s log (pick-at picks i) in
-      by-test (eqb (a .number) 0)
-      (λ e. rw e (steps-keep picks (suc i) count (a .state) (a .log) (kept s log (pick-at picks i) h)))
-      (λ e. rw e h)
-
-  run-keeps : (s : State) (log picks : List ℕ) (most : ℕ) → P s → P (run list s log picks most .state)
-  unfolding run
-  run-keeps s log picks most h =
-      by-test (eqb (refusal (run-tests list s picks)) 0)
-      (λ e. rw e (steps-keep picks 0 (min most (length picks / 2)) s log h))
-      (λ e. rw e h)
-
-pub run-sound : RunSound
-run-sound list = run-keeps list (λ s. sound-state list s ≡ true) (step-sound list)
-
-pub run-held : RunHeld
-run-held list = run-keeps list Held (step-held list)

@@ -1,10 +1,6 @@
 pub mod Order
-pub mod Counts
 pub mod Invariant
-pub mod Changed
 pub mod Charge
-pub mod Tests
-pub mod Meaning
 pub mod Taken
 pub mod Deadlock
 pub mod Targets

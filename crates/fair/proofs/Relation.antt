@@ -1,27 +1,26 @@
 -- The steps taken are FAIR's, and FAIR allows no other outcome of a pick. Assumes nothing.
 use mathlib.Core.Path.{_≡_, refl, sym, _∙_}
-use mathlib.Core.Logic.{inl, inr}
-use mathlib.Core.Bool.{Bool, false≢true}
 use mathlib.Core.List.{List}
 use Prim.Native.Nat.{ℕ, _≤_, _<_}
 use native.Mathlib.Omega.{arith}
 use borrow.Author.Tests.{eqb-true, eqb-false, eq-eqb, ne-eqb}
 use lib.Dec.{eqb}
 use lib.ListN.{length}
-use lib.IntN.{ℤ, pos}
+use lib.IntN.{pos}
 use Rattle.rules.specs.Records.{Pick}
 use Rattle.rules.specs.State.{State, priority}
 use Rattle.rules.specs.Ready.{ready}
-use Rattle.rules.specs.Step.{charged, charge, stepped}
+use Rattle.rules.specs.Turn.{charged}
+use Rattle.rules.specs.Step.{charge, stepped}
 use Rattle.rules.specs.Calls.{ruled}
 use Rattle.laws.proofs.Choice.{by-test}
 use Rattle.fair.specs.Fair.{Update}
-use Rattle.fair.specs.Relation.{StepFair, UpdateOnly, InvKept}
-use Rattle.fair.proofs.Order.{low-loses}
-use Rattle.fair.proofs.Invariant.{Falls, inv-kept}
-use Rattle.fair.proofs.Changed.{changed-at}
-use Rattle.fair.proofs.Meaning.{sound-means, sound-list-means}
-use Rattle.fair.proofs.Taken.{step-taken, step-state}
+use Rattle.fair.specs.Relation.{StepFair, UpdateOnly}
+use Rattle.laws.proofs.Changed.{changed-at}
+use Rattle.laws.proofs.Sound.{sound-means}
+use Rattle.laws.proofs.Sound.{few-stations}
+use Rattle.laws.proofs.Answers.{step-state}
+use Rattle.fair.proofs.Taken.{step-taken}
 
 module _ (list : List ℕ) (s : State) (p : Pick) (long : s .n ≤ length (s .priorities)) where
   charge-at : (j : ℕ) → j < s .n
@@ -44,7 +43,7 @@ pub step-fair : StepFair ruled
 step-fair list s log p held h =
     let (can, c, r) = step-taken list s log p .0 h in
     let long : s .n ≤ length (s .priorities) =
-    omega (arith, held .priorities, sound-list-means list (can .of-list) .few-stations, sound-means list s .0 (can .of-state) .of-list) in
+    omega (arith, held .priorities, few-stations list (can .of-list), sound-means list s .0 (can .of-state) .of-list) in
     rw (step-state list s log p h) (c, updated list s p long (c .station) r)
 
 pub update-only : UpdateOnly
@@ -53,18 +52,3 @@ update-only n ready b z x y i reset u v j l =
     (λ e. rw (eqb-true j i e) (u .picked ∙ sym (v .picked)))
     (λ e. let other = eqb-false j i e in
     by-test (ready j) (λ r. u .charged j l other r ∙ sym (v .charged j l other r)) (λ r. u .stays j l other r ∙ sym (v .stays j l other r)))
-
--- UPDATE lets the numbers fall as the invariant allows
-update-falls : (n : ℕ) (ready : ℕ → Bool) (b : ℕ) (z z′ : ℕ → ℤ) (i reset : ℕ) → Update n ready b z z′ i reset → Falls n ready z z′ i
-update-falls n ready b z z′ i reset u =
-    record {
-      picked = λ k. rw (u .picked);
-      others = λ j k l h. by-test (eqb j i)
-          (λ e. absurd (false≢true (rw (eqb-true j i e, u .picked) at h)))
-          (λ e. by-test (ready j)
-          (λ r. inl (r, rw (u .charged j l (eqb-false j i e) r, low-loses) at h))
-          (λ r. inr (rw (u .stays j l (eqb-false j i e) r) at h)));
-    }
-
-pub inv-kept-by-fair : InvKept
-inv-kept-by-fair n ready b z z′ i reset c u = inv-kept n ready z z′ i c (update-falls n ready b z z′ i reset u)

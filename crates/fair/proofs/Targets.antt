@@ -3,29 +3,16 @@ use mathlib.Core.Path.{_≡_, subst}
 use mathlib.Core.Bool.{true, false, _&&_, false≢true}
 use mathlib.Core.List.{List, [], _∷_}
 use Prim.Native.Nat.{ℕ, suc}
-use borrow.Author.Tests.{leb-true, ltb-true, eqb-true}
-use lib.Dec.{eqb, ltb}
+use borrow.Author.Tests.{eqb-true}
+use lib.Dec.{eqb}
 use Rattle.rules.specs.Words.{among}
 use Rattle.rules.specs.Names.{SKIP, SET, IF, WHILE, AWAIT, STOP}
 use Rattle.rules.specs.Records.{ListRecord, list-record-at}
-use Rattle.rules.specs.List.{stations, own-right, is-at, outside, inside, outside-targets, later-right, sound-list}
+use Rattle.rules.specs.List.{outside, inside, outside-targets, sound-list}
 use Rattle.rules.specs.Values.{holds}
-use Rattle.rules.specs.Step.{target-after, step-position}
-use Rattle.laws.proofs.Choice.{by-test, both-left, both-right}
-use Rattle.fair.proofs.Meaning.{split, sound-list-means}
-
--- an outside record's targets are right
-targets-at : (list : List ℕ) (j p : ℕ) → sound-list list ≡ true → outside list j p ≡ true
-    → (list-record-at list p .station ≡ j) × (outside-targets list p ≡ true)
-unfolding is-at later-right
-targets-at list j p h o =
-    let e = list-record-at list p in
-    let own = split _ _ o in
-    let outer = split _ _ (own .0) in
-    let place = split _ _ (outer .0) in
-    let right = sound-list-means list h .laters p (leb-true _ _ (place .0)) (ltb-true _ _ (place .1)) in
-    let there = both-right (ltb (e .station) (stations list) && own-right (e .own) && eqb (e .spare) 0) _ right in
-    (eqb-true (e .station) j (own .1), both-right (among (e .own .kind) (SKIP ∷ SET ∷ IF ∷ WHILE ∷ AWAIT ∷ STOP ∷ [])) _ (rw (outer .1) at there))
+use Rattle.rules.specs.Move.{target-after, step-position}
+use Rattle.laws.proofs.Choice.{by-test, both-left, both-right, split}
+use Rattle.laws.proofs.Sound.{at-means, outside-right}
 
 -- SKIP and SET are no tests
 kinds-apart : (kind : ℕ) → among kind (SKIP ∷ SET ∷ []) ≡ true → among kind (IF ∷ WHILE ∷ []) ≡ true → ⊥
@@ -62,5 +49,5 @@ step-outside list p vars right going =
 pub position-outside : (list : List ℕ) (j p : ℕ) (vars : List ℕ) → sound-list list ≡ true → outside list j p ≡ true
     → eqb (list-record-at list p .own .kind) STOP ≡ false → outside list j (step-position vars (list-record-at list p)) ≡ true
 position-outside list j p vars h o going =
-    let (own, right) = targets-at list j p h o in
-    subst (λ (k : ℕ). outside list k (step-position vars (list-record-at list p)) ≡ true) own (step-outside list p vars right going)
+    subst (λ (k : ℕ). outside list k (step-position vars (list-record-at list p)) ≡ true) (at-means list 0 j p o .of-station)
+    (step-outside list p vars (outside-right list h j p o) going)

@@ -8,7 +8,7 @@ use Rattle.rules.specs.Records.{Pick}
 use Rattle.rules.specs.State.{State, priority}
 use Rattle.rules.specs.Ready.{ready}
 use Rattle.rules.specs.Calls.{Seven}
-use Rattle.fair.specs.Fair.{Sch, Update, Inv}
+use Rattle.fair.specs.Fair.{Sch, Update}
 use Rattle.fair.specs.Sound.{Held}
 
 -- every step taken is one of FAIR's: its station satisfies SCH, and the numbers before and after satisfy UPDATE
@@ -23,9 +23,3 @@ abbrev pub UpdateOnly : Type 0
 UpdateOnly =
     (n : ℕ) (ready : ℕ → Bool) (b : ℕ) (z x y : ℕ → ℤ) (i reset : ℕ) → Update n ready b z x i reset → Update n ready b z y i reset
     → (j : ℕ) → j < n → x j ≡ y j
-
--- INV "holds in every state … of FAIR": the relation alone keeps it, for every n
-abbrev pub InvKept : Type 0
-InvKept =
-    (n : ℕ) (ready : ℕ → Bool) (b : ℕ) (z z′ : ℕ → ℤ) (i reset : ℕ)
-    → Sch n ready z i → Update n ready b z z′ i reset → Inv n z → Inv n z′

@@ -4,22 +4,13 @@ use mathlib.Core.Path.{_≡_}
 use mathlib.Core.Logic.{_↔_}
 use mathlib.Core.Bool.{true}
 use mathlib.Core.List.{List}
-use Prim.Native.Nat.{ℕ, _+_, _*_, _≤_, _<_}
-use lib.ListN.{length}
-use Rattle.rules.specs.Names.{max-steps}
+use Prim.Native.Nat.{ℕ, _≤_, _<_}
 use Rattle.rules.specs.Records.{Pick}
-use Rattle.rules.specs.List.{sound-list}
-use Rattle.rules.specs.State.{State, sound-state}
+use Rattle.rules.specs.State.{State}
 use Rattle.rules.specs.Ready.{ready, lowest}
 use Rattle.rules.specs.Calls.{Seven}
+use Rattle.laws.specs.Passed.{CanStep}
 use Rattle.fair.specs.Charged.{Chosen}
-
--- what a step needs whatever its pick: none of 7, 8, 9 and 6 refuses it
-pub record CanStep (list : List ℕ) (s : State) (log : List ℕ) : Type 0 where
-  pub of-list : sound-list list ≡ true
-  pub of-state : sound-state list s ≡ true
-  pub steps-left : s .m < max-steps
-  pub room : 2 * (s .n + s .m + 1) ≤ length log
 
 -- a step is taken exactly when it has what every step needs, FAIR lets its station be picked, and its reset is at most B
 abbrev pub StepTaken : Seven → Type 0

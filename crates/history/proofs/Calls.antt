@@ -12,11 +12,10 @@ use Rattle.rules.specs.State.{State}
 use Rattle.rules.specs.Step.{stepped, step}
 use Rattle.rules.specs.Run.{steps-from, run-tests, run}
 use Rattle.laws.proofs.Choice.{by-test}
-use Rattle.fair.proofs.Taken.{step-state, step-refused}
+use Rattle.laws.proofs.Answers.{start-leaves, step-state, step-refused, step-leaves, undo-refused}
 use Rattle.rules.specs.Calls.{ruled}
 use Rattle.rules.specs.History.{CHECK, BUILD, START, STEP, RUN, UNDO, LIGHTS, Now, stepped-on, single-steps, called}
 use Rattle.history.specs.Calls.{RefusedLeaves, RunSingle}
-use Rattle.history.proofs.Answers.{start-refused, step-leaves, undo-refused}
 
 -- a run is as many single steps as it says
 steps-are-single : (list picks : List ℕ) (i count : ℕ) (now : Now)
@@ -72,7 +71,7 @@ refused-leaves list now (CHECK file) refused none = refl
 refused-leaves list now (BUILD file buffer) refused none = refl
 refused-leaves list now (START b resets) refused none =
     let no = ne-eqb _ 0 refused in
-    rw (no, start-refused list b resets (now .log) no)
+    rw (no, start-leaves list b resets (now .log) no)
 refused-leaves list now (STEP p) refused none =
     let no = ne-eqb _ 0 refused in
     rw (no, step-refused list (now .state) (now .log) p no, step-leaves list (now .state) (now .log) p no)

@@ -14,13 +14,12 @@ use Rattle.rules.specs.Start.{start, start-records}
 use Rattle.rules.specs.Step.{step}
 use Rattle.rules.specs.Undo.{undo}
 use Rattle.laws.proofs.Choice.{by-test}
-use Rattle.fair.proofs.Taken.{step-refused}
+use Rattle.laws.proofs.Answers.{start-written, start-leaves, step-written, step-refused, step-leaves}
 use Rattle.rules.specs.Calls.{ruled}
 use Rattle.rules.specs.History.{Call, CHECK, BUILD, START, STEP, RUN, UNDO, LIGHTS, Steps, begun, taken, top, spelled, pushed, popped, Now, stepped-on, single-steps, called, calls-from, history}
 use Rattle.history.specs.Back.{Made, by-start, by-step, below}
-use Rattle.history.proofs.Log.{written-behind}
+use Rattle.laws.proofs.Written.{written-behind}
 use Rattle.history.proofs.Calls.{run-single}
-use Rattle.history.proofs.Answers.{start-taken, start-refused, step-left, step-leaves}
 use Rattle.history.proofs.Stack.{stack-facts}
 use Rattle.history.proofs.Undone.{undo-made}
 
@@ -51,7 +50,7 @@ step-follows list s log p h (some steps) f =
       last = refl;
       made = rw (f .last) (by-step p log (f .made) m);
       rest = drop 2 (f .rest);
-      logged = step-left list s log p h ∙ rw (f .last, f .logged, append-assoc) (written-behind (spelled steps) (f .rest) (pick-bytes p) _ at);
+      logged = step-written list s log p h ∙ rw (f .last, f .logged, append-assoc) (written-behind (spelled steps) (f .rest) (pick-bytes p) _ at);
     }
 
 stepped-on-follows : (list : List ℕ) (now : Now) (p : Pick) → Follows-now list now → Follows-now list (stepped-on ruled list now p)
@@ -77,7 +76,7 @@ start-follows list b resets log h =
       last = refl;
       made = by-start b resets log h;
       rest = drop (0 + length (start-records 0 resets)) log;
-      logged = start-taken list b resets log h .left;
+      logged = start-written list b resets log h;
     }
 
 -- undo answers the state below
@@ -111,7 +110,7 @@ called-follows list now (BUILD file buffer) f = f
 called-follows list now (START b resets) f =
     by-test (eqb (start list b resets (now .log) .number) 0)
     (λ y. rw y (start-follows list b resets (now .log) (eqb-true _ 0 y)))
-    (λ y. rw (y, start-refused list b resets (now .log) y) f)
+    (λ y. rw (y, start-leaves list b resets (now .log) y) f)
 called-follows list now (STEP p) f = stepped-on-follows list now p f
 called-follows list now (RUN picks most) f =
     subst (λ (after : Now). Follows-now list after) (sym (run-single list now picks most .0)) (single-steps-follow list picks 0 _ now f)

@@ -1,6 +1,4 @@
-pub mod Log
 pub mod Replay
-pub mod Answers
 pub mod Calls
 pub mod Written
 pub mod Stack

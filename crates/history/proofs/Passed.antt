@@ -19,8 +19,8 @@ use Rattle.rules.specs.Step.{stepped, step}
 use Rattle.laws.proofs.Choice.{by-test}
 use Rattle.fair.specs.Fair.{Update}
 use Rattle.fair.proofs.Charge.{above-low}
-use Rattle.fair.proofs.Meaning.{sound-means}
-use Rattle.fair.proofs.Taken.{step-state}
+use Rattle.laws.proofs.Sound.{sound-means}
+use Rattle.laws.proofs.Answers.{step-state}
 use Rattle.fair.proofs.Relation.{step-fair}
 use Rattle.rules.specs.Calls.{ruled}
 use Rattle.rules.specs.History.{Steps, begun, taken, top, start-b}

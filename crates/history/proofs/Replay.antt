@@ -1,21 +1,20 @@
--- A replay of one record more: the same replay, then that record's step. Assumes nothing.
+-- A replay of one record more: the same replay, then that record's pick. Assumes nothing.
 use mathlib.Core.Path.{_≡_, ap}
 use mathlib.Core.List.{List}
 use Prim.Native.Nat.{ℕ, zero, suc, _+_}
 use native.Mathlib.Omega.{arith}
 use borrow.Author.Tests.{eq-eqb, eqb-false}
 use lib.Dec.{eqb}
-use Rattle.rules.specs.Words.{refusal}
 use Rattle.rules.specs.Records.{pick-at}
 use Rattle.rules.specs.State.{State}
-use Rattle.rules.specs.Step.{pick-tests, stepped}
+use Rattle.rules.specs.Step.{picked}
 use Rattle.rules.specs.Undo.{Undone, replay}
 use Rattle.laws.proofs.Choice.{by-test}
 
 pub replay-more : (list log : List ℕ) (i count : ℕ) (s t : State)
     → replay list log i count s ≡ record { number = 0; state = t }
-    → refusal (pick-tests list t (pick-at log (i + count))) ≡ 0
-    → replay list log i (suc count) s ≡ record { number = 0; state = stepped list t (pick-at log (i + count)) }
+    → picked list t (pick-at log (i + count)) .number ≡ 0
+    → replay list log i (suc count) s ≡ record { number = 0; state = picked list t (pick-at log (i + count)) .state }
 unfolding replay
 replay-more list log i zero s t e none =
     let same : s ≡ t = ap (λ (u : Undone). u .state) e in
@@ -23,6 +22,6 @@ replay-more list log i zero s t e none =
     rw (same, at, eq-eqb _ 0 (rw at at none))
 replay-more list log i (suc count) s t e none =
     let at : i + suc count ≡ suc i + count = omega arith in
-    by-test (eqb (refusal (pick-tests list s (pick-at log i))) 0)
-    (λ y. rw (y, at) (replay-more list log (suc i) count (stepped list s (pick-at log i)) t (rw y at e) (rw at at none)))
+    by-test (eqb (picked list s (pick-at log i) .number) 0)
+    (λ y. rw (y, at) (replay-more list log (suc i) count (picked list s (pick-at log i) .state) t (rw y at e) (rw at at none)))
     (λ y. absurd (eqb-false _ 0 y (ap (λ (u : Undone). u .number) (rw y at e))))

@@ -1,31 +1,28 @@
 -- What holds of a stack that START and STEP made: its states are sound, and any log that opens with its records replays to its top.
 -- Assumes nothing.
-use mathlib.Core.Path.{_≡_, refl, subst}
+use mathlib.Core.Path.{_≡_, subst}
 use mathlib.Core.Bool.{true}
 use mathlib.Core.List.{List, _++_, append-assoc}
 use Prim.Native.Nat.{ℕ, suc, _+_, _-_, _*_}
 use native.Mathlib.Omega.{arith}
 use lib.ListN.{length, length-append}
-use Rattle.rules.specs.Words.{values, refusal}
+use Rattle.rules.specs.Words.{values}
 use Rattle.rules.specs.Records.{Pick, pick-at, pick-bytes}
 use Rattle.rules.specs.List.{stations, sound-list}
 use Rattle.rules.specs.State.{sound-state}
 use Rattle.rules.specs.Start.{started, start}
-use Rattle.rules.specs.Step.{pick-tests, stepped, step}
+use Rattle.rules.specs.Step.{stepped, picked, step}
 use Rattle.rules.specs.Undo.{replay, starts-right, replayed}
 use Rattle.fair.specs.Sound.{Held}
-use Rattle.fair.proofs.Tests.{unrefused}
-use Rattle.fair.proofs.Meaning.{sound-means}
-use Rattle.fair.proofs.Taken.{pick-taken, step-taken, step-state}
+use Rattle.laws.proofs.Answers.{start-can, start-state, picked-state, step-picks, step-state}
 use Rattle.fair.proofs.Held.{step-held}
 use Rattle.fair.proofs.Kept.{step-sound}
 use Rattle.fair.proofs.Begun.{start-sound}
 use Rattle.rules.specs.Calls.{ruled}
 use Rattle.rules.specs.History.{Steps, begun, taken, top, start-b, height, spelled}
 use Rattle.history.specs.Back.{Made, by-start, by-step}
-use Rattle.history.proofs.Log.{pick-behind, length-starts, resets-behind, starts-behind}
+use Rattle.laws.proofs.Written.{pick-behind, length-starts, resets-behind, starts-behind}
 use Rattle.history.proofs.Replay.{replay-more}
-use Rattle.history.proofs.Answers.{start-taken}
 
 -- the last three speak of the stack's records, and of every log that opens with them
 pub record Facts (list : List ℕ) (steps : Steps) : Type 0 where
@@ -43,18 +40,19 @@ module _ (list : List ℕ) (b : ℕ) (resets log : List ℕ) (h : start list b r
   start-facts : Facts list (begun b resets (start list b resets log .state))
   unfolding spelled replayed replay started
   start-facts =
-      let a = start-taken list b resets log h in
+      let a = start-can list b resets log h in
+      let state = start-state list b resets log h in
       let s = start-sound list b resets log h in
       record {
         of-list = a .of-list;
         sound = s .0;
         held = s .1;
-        stations-are = rw (a .state);
-        b-is = rw (a .state);
-        counted = rw (a .state);
-        bytes = rw (a .state) (let e = length-starts 0 resets in omega (arith, a .count));
-        starts = λ rest. rw (a .state) (starts-behind list resets rest b (a .count) (a .within));
-        replays = λ rest. rw (a .state, resets-behind resets rest (stations list) (a .count));
+        stations-are = rw state;
+        b-is = rw state;
+        counted = rw state;
+        bytes = rw state (let e = length-starts 0 resets in omega (arith, a .count));
+        starts = λ rest. rw state (starts-behind list resets rest b (a .count) (a .within));
+        replays = λ rest. rw (state, resets-behind resets rest (stations list) (a .count));
       }
 
 module _ (list : List ℕ) (steps : Steps) (p : Pick) (log : List ℕ) (f : Facts list steps) (h : step list (top steps) log p .number ≡ 0) where
@@ -65,18 +63,17 @@ module _ (list : List ℕ) (steps : Steps) (p : Pick) (log : List ℕ) (f : Fact
   more-replays rest =
       let s = top steps in
       let log′ = spelled steps ++ (pick-bytes p ++ rest) in
-      let (can, c, r) = step-taken list s log p .0 h in
-      let none = unrefused (pick-tests list s p) refl .1 (pick-taken list s p .1 (c, r)) in
-      let same : stations list + s .m ≡ s .n + s .m = omega (arith, sound-means list s .0 (f .sound) .of-list) in
+      let goes = step-picks list s log p h in
+      let same : stations list + s .m ≡ s .n + s .m = omega (arith, f .stations-are) in
       let at : pick-at log′ (stations list + s .m) ≡ p = pick-behind (spelled steps) rest _ p (rw same (f .bytes)) in
       let one : suc (s .m) - 1 ≡ s .m = omega arith in
       let two : suc (s .m + 1) - 1 ≡ suc (s .m) = omega arith in
       let first = started list (s .b) (values (λ j. pick-at log′ j .reset) (stations list)) in
-      rw two
+      rw (two, ← picked-state list s p goes)
       (subst
-      (λ (q : Pick). refusal (pick-tests list s q) ≡ 0
-      → replay list log′ (stations list) (suc (s .m)) first ≡ record { number = 0; state = stepped list s q })
-      at (replay-more list log′ (stations list) (s .m) first s (rw one at (f .replays (pick-bytes p ++ rest)))) none)
+      (λ (q : Pick). picked list s q .number ≡ 0
+      → replay list log′ (stations list) (suc (s .m)) first ≡ record { number = 0; state = picked list s q .state })
+      at (replay-more list log′ (stations list) (s .m) first s (rw one at (f .replays (pick-bytes p ++ rest)))) goes)
 
   step-facts : Facts list (taken steps p (step list (top steps) log p .state))
   unfolding spelled stepped

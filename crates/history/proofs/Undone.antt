@@ -14,7 +14,7 @@ use Rattle.rules.specs.List.{sound-list}
 use Rattle.rules.specs.State.{State, sound-state}
 use Rattle.rules.specs.Step.{stepped}
 use Rattle.rules.specs.Undo.{starts-right, replayed, undo}
-use Rattle.fair.proofs.Taken.{step-state}
+use Rattle.laws.proofs.Answers.{step-state}
 use Rattle.rules.specs.Calls.{ruled}
 use Rattle.rules.specs.History.{Steps, top, spelled}
 use Rattle.history.specs.Back.{Made, by-start, by-step, below}

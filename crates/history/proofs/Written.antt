@@ -14,12 +14,12 @@ use Rattle.rules.specs.Start.{start, start-records}
 use Rattle.rules.specs.Step.{stepped, step}
 use Rattle.rules.specs.Run.{steps-from, run-tests, run}
 use Rattle.laws.proofs.Choice.{by-test}
-use Rattle.fair.proofs.Taken.{step-taken, step-state}
+use Rattle.laws.proofs.Answers.{start-can, start-written, start-leaves, step-state, step-written, step-leaves}
+use Rattle.fair.proofs.Taken.{step-taken}
 use Rattle.rules.specs.Calls.{ruled}
 use Rattle.rules.specs.History.{CHECK, BUILD, START, STEP, RUN, UNDO, LIGHTS, stepped-on, called}
 use Rattle.history.specs.Written.{Put, LogWritten}
-use Rattle.history.proofs.Log.{written-none, length-written, written-more, length-starts}
-use Rattle.history.proofs.Answers.{start-taken, start-refused, step-left, step-leaves}
+use Rattle.laws.proofs.Written.{written-none, length-written, written-more, length-starts}
 
 -- bytes put in, all of them inside the log
 put : (log after : List ℕ) (at : ℕ) (bytes : List ℕ) → after ≡ written log at bytes → at + length bytes ≤ length log → Put log after at bytes
@@ -39,9 +39,10 @@ start-put : (list : List ℕ) (b : ℕ) (resets log : List ℕ)
 start-put list b resets log =
     by-test (eqb (start list b resets log .number) 0)
     (λ y.
-    let a = start-taken list b resets log (eqb-true _ 0 y) in
-    rw y (put log _ 0 (start-records 0 resets) (a .left) (omega (arith, a .room, a .count, length-starts 0 resets))))
-    (λ y. rw y (put-none log _ 0 (start-refused list b resets log y)))
+    let h = eqb-true _ 0 y in
+    let a = start-can list b resets log h in
+    rw y (put log _ 0 (start-records 0 resets) (start-written list b resets log h) (omega (arith, a .room, a .count, length-starts 0 resets))))
+    (λ y. rw y (put-none log _ 0 (start-leaves list b resets log y)))
 
 step-put : (list : List ℕ) (s : State) (log : List ℕ) (p : Pick)
     → Put log (step list s log p .log) (2 * (s .n + s .m)) (if eqb (step list s log p .number) 0 then pick-bytes p else [])
@@ -50,7 +51,7 @@ step-put list s log p =
     (λ y.
     let h = eqb-true _ 0 y in
     let (can, c, r) = step-taken list s log p .0 h in
-    rw y (put log _ _ (pick-bytes p) (step-left list s log p h) (omega (arith, can .room))))
+    rw y (put log _ _ (pick-bytes p) (step-written list s log p h) (omega (arith, can .room))))
     (λ y. rw y (put-none log _ _ (step-leaves list s log p y)))
 
 -- a record of the picks, and those behind it

@@ -10,7 +10,7 @@ use Rattle.rules.specs.Records.{ListRecord, list-record-at}
 use Rattle.rules.specs.Values.{holds}
 use Rattle.rules.specs.Trees.{Statements, size}
 use Rattle.rules.specs.Build.{start-of, laid}
-use Rattle.rules.specs.Step.{vars-after, target-after, body-run}
+use Rattle.rules.specs.Move.{vars-after, target-after, body-run}
 use Rattle.laws.proofs.Choice.{by-test}
 use Rattle.reading.specs.Reading.{Some, Proper, end, skips, assigns, branches}
 use Rattle.built.proofs.Along.{Along}

@@ -10,7 +10,7 @@ use Rattle.rules.specs.Names.{SKIP, SET, IF, WHILE, AWAIT, STOP}
 use Rattle.rules.specs.Records.{Record, ListRecord, list-record-at, list-count}
 use Rattle.rules.specs.Trees.{Statements, size}
 use Rattle.rules.specs.Build.{bare, listed, start-of, laid}
-use Rattle.rules.specs.Step.{body-run}
+use Rattle.rules.specs.Move.{body-run}
 use Rattle.reading.specs.Reading.{Proper, end, skips, assigns, branches, loops, awaits}
 use Rattle.built.proofs.Along.{Along, along-left, along-right}
 use Rattle.built.proofs.Standing.{apart, together}

@@ -14,14 +14,16 @@ use Rattle.rules.specs.Names.{AWAIT, STOP}
 use Rattle.rules.specs.Records.{ListRecord, list-count, Pick}
 use Rattle.rules.specs.State.{State, position}
 use Rattle.rules.specs.Ready.{next-step, ended, waiting, ready}
-use Rattle.rules.specs.Step.{body-run, step-vars, step-position, stepped}
+use Rattle.rules.specs.Move.{body-run, step-vars, step-position}
+use Rattle.rules.specs.Step.{stepped}
 use Rattle.laws.proofs.Choice.{by-test}
 use Rattle.laws.proofs.Places.{length-values, getD-values}
 use Rattle.reading.specs.Accepted.{Accepted}
 use Rattle.reading.proofs.One.{reading-is}
 use Rattle.built.specs.Built.{built}
-use Rattle.fair.proofs.Meaning.{sound-means}
-use Rattle.fair.proofs.Taken.{step-state, step-taken}
+use Rattle.laws.proofs.Sound.{sound-means}
+use Rattle.laws.proofs.Answers.{step-state}
+use Rattle.fair.proofs.Taken.{step-taken}
 use Rattle.language.specs.Language.{await-end, Program, E, _before_, ⟨_∣_⟩⟶⟨_∣_⟩, ⟨_∣_⟩⟶*⟨_∣_⟩, component, Moves, parallel-rule, Enabled}
 use Rattle.language.specs.Rests.{stands-for}
 use Rattle.language.specs.Claims.{Determined, StopEnds, BodyRuns, Standing, SoundStanding, programs, ReadyEnabled, StationMoves, StepMoves, TakenMoves}

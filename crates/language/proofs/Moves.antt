@@ -8,7 +8,7 @@ use Rattle.rules.specs.Words.{if_then_else_, among}
 use Rattle.rules.specs.Names.{SKIP, SET, IF, WHILE, AWAIT, STOP}
 use Rattle.rules.specs.Records.{ListRecord, list-count}
 use Rattle.rules.specs.Values.{assigned, holds}
-use Rattle.rules.specs.Step.{body-run, step-vars, step-position}
+use Rattle.rules.specs.Move.{body-run, step-vars, step-position}
 use Rattle.laws.proofs.Choice.{by-test}
 use Rattle.language.specs.Language.{while-od, Program, only, ⟨_∣_⟩⟶⟨_∣_⟩, skip-rule, assign-rule, if-true, if-false, while-true, while-false, await-rule, sequence-rule, Disabled, terminated, waiting}
 use Rattle.language.proofs.Sequence.{grouped}

@@ -1,17 +1,15 @@
 -- In the list of an accepted file, each outside record and what it stands for match. Assumes nothing.
 use mathlib.Core.Path.{_≡_, subst}
-use mathlib.Core.Bool.{Bool, true, _&&_}
+use mathlib.Core.Bool.{true}
 use mathlib.Core.List.{List}
 use Prim.Native.Nat.{ℕ, _+_, _-_, _≤_, _<_}
 use native.Mathlib.Nat.{zero-add}
 use native.Mathlib.Omega.{arith}
-use borrow.Author.Tests.{leb-true, ltb-true, eqb-true}
-use lib.Dec.{eqb, leb, ltb}
 use lib.ListN.{length, getD}
-use Rattle.rules.specs.Records.{ListRecord, list-record-at, list-count}
+use Rattle.rules.specs.Records.{list-record-at, list-count}
 use Rattle.rules.specs.Trees.{stations-of, initial-part}
 use Rattle.rules.specs.Build.{bodies, list-records}
-use Rattle.rules.specs.List.{later, is-at, outside}
+use Rattle.rules.specs.List.{outside}
 use Rattle.reading.specs.Accepted.{Accepted}
 use Rattle.reading.proofs.One.{reading-is}
 use Rattle.built.specs.Targets.{blank}
@@ -20,7 +18,7 @@ use Rattle.built.proofs.Along.{Along, along-at, along-all}
 use Rattle.built.proofs.Lengths.{length-bodies, length-list}
 use Rattle.built.proofs.Standing.{parts-apart}
 use Rattle.built.proofs.Whole.{built-parts}
-use Rattle.fair.proofs.Meaning.{split}
+use Rattle.laws.proofs.Sound.{at-means}
 use Rattle.language.specs.Rests.{stands-for}
 use Rattle.language.proofs.Bodies.{Spelt}
 use Rattle.language.proofs.Matched.{Matches, RightAt}
@@ -42,19 +40,13 @@ module _ (file : List ℕ) (bytes : (i : ℕ) → getD file i 0 < 256) (accepted
   spelt = along-all (Spelt (built file)) 0 (list-records file) blank (λ i l. rw zero-add (parted .records-are i l))
 
   pub outside-is : (j p : ℕ) → outside (built file) j p ≡ true → Outside file j p
-  unfolding is-at
   outside-is j p o =
-      let e : ListRecord = list-record-at (built file) p in
-      let from : Bool = leb (later (built file)) p in
-      let below : Bool = ltb p (list-count (built file)) in
-      let own = split (from && below && eqb (e .inside) 0) (eqb (e .station) j) o in
-      let outer = split (from && below) (eqb (e .inside) 0) (own .0) in
-      let place = split from below (outer .0) in
+      let here = at-means (built file) 0 j p o in
       record {
-        late = omega (arith, leb-true (later (built file)) p (place .0), parted .stations-are, parted .initials-are);
-        within = ltb-true p (list-count (built file)) (place .1);
-        outer = eqb-true (e .inside) 0 (outer .1);
-        of-station = eqb-true (e .station) j (own .1);
+        late = omega (arith, here .from, parted .stations-are, parted .initials-are);
+        within = here .within;
+        outer = here .byte-is;
+        of-station = here .of-station;
       }
 
   all-match : Along (RightAt (built file) (stands-for file)) (length (stations-of file) + length (initial-part file))

@@ -14,7 +14,8 @@ use Rattle.rules.specs.List.{outside}
 use Rattle.rules.specs.State.{State, position, sound-state}
 use Rattle.rules.specs.Ready.{next-step, ready}
 use Rattle.rules.specs.Start.{started}
-use Rattle.rules.specs.Step.{body-run, step-vars, step-position, stepped, step}
+use Rattle.rules.specs.Move.{body-run, step-vars, step-position}
+use Rattle.rules.specs.Step.{stepped, step}
 use Rattle.built.specs.Built.{built}
 use Rattle.language.specs.Language.{await-end, Program, E, _before_, ⟨_∣_⟩⟶⟨_∣_⟩, ⟨_∣_⟩⟶*⟨_∣_⟩, component, Moves, Enabled}
 use Rattle.language.specs.Rests.{program-of, assignments, stands-for}

@@ -1,6 +1,6 @@
 -- A choice by a test, and both answers of a test at once. Assumes nothing.
 use mathlib.Core.Path.{_≡_, refl, _∙_}
-use mathlib.Core.Bool.{Bool, true, false, _&&_}
+use mathlib.Core.Bool.{Bool, true, false, _&&_, _||_, true≢false}
 use Rattle.rules.specs.Words.{if_then_else_}
 
 -- to show something, show it where the test holds and where it fails
@@ -32,9 +32,17 @@ both-right true b e = e
 both-right false true e = refl
 both-right false false e = e
 
+pub split : (a b : Bool) → (a && b) ≡ true → (a ≡ true) × (b ≡ true)
+split a b e = (both-left a b e, both-right a b e)
+
 pub not-both-left : (a b : Bool) → a ≡ false → (a && b) ≡ false
 not-both-left a b e = rw e
 
 pub not-both-right : (a b : Bool) → b ≡ false → (a && b) ≡ false
 not-both-right true b e = e
 not-both-right false b e = refl
+
+-- neither of two tests
+pub neither : (a b : Bool) → (a || b) ≡ false → (a ≡ false) × (b ≡ false)
+neither true b e = absurd (true≢false e)
+neither false b e = (refl, e)

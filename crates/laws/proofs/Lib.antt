@@ -1,4 +1,11 @@
 pub mod Choice
 pub mod Places
+pub mod Counts
+pub mod Changed
+pub mod Filled
 pub mod Judge
+pub mod Written
 pub mod Lowest
+pub mod Sound
+pub mod Passed
+pub mod Answers

@@ -3,7 +3,7 @@
 use mathlib.Core.Path.{_≡_, refl, ap}
 use mathlib.Core.Bool.{Bool, true, false}
 use mathlib.Core.List.{List, [], _∷_, _++_}
-use Prim.Native.Nat.{ℕ, zero, suc, _≤_, _<_, zero-le}
+use Prim.Native.Nat.{ℕ, zero, suc, _+_, _-_, _≤_, _<_, zero-le}
 use native.Mathlib.Nat.{not-suc-le-zero, le-of-suc-le-suc}
 use native.Mathlib.Omega.{arith}
 use lib.ListN.{length, getD}
@@ -21,6 +21,13 @@ pub each-all : (f : ℕ → Bool) (n : ℕ) → ((i : ℕ) → i < n → f i ≡
 unfolding each
 each-all f zero h = refl
 each-all f (suc n) h = both (h 0 (omega arith)) (each-all (λ k. f (suc k)) n (λ i l. h (suc i) (omega arith)))
+
+-- each place from one on, below a count
+pub each-from : (f : ℕ → Bool) (from count : ℕ) → each (λ i. f (from + i)) (count - from) ≡ true
+    → (p : ℕ) → from ≤ p → p < count → f p ≡ true
+each-from f from count h p a b =
+    let e : from + (p - from) ≡ p = omega arith in
+    rw e at (each-at (λ i. f (from + i)) (count - from) h (p - from) (omega arith))
 
 -- one place that fails is enough
 pub each-not : (f : ℕ → Bool) (n i : ℕ) → i < n → f i ≡ false → each f n ≡ false

@@ -1,26 +1,26 @@
 -- The masks of the stations from one on: of no station, of one more, and of all of them, which are the rules' lights. Assumes nothing.
 use mathlib.Core.Path.{_≡_, sym, _∙_}
-use mathlib.Core.Bool.{Bool, true, false, not, and-false}
+use mathlib.Core.Bool.{Bool, true, false, not}
 use mathlib.Core.List.{List, [], _∷_}
 use Prim.Native.Nat.{ℕ, _+_, _≤_, _<_}
-use native.Mathlib.Omega.{arith}
-use borrow.Author.Tests.{leb-true, eqb-true, not-false}
-use lib.Dec.{eqb, leb}
+use borrow.Author.Tests.{not-false}
 use lib.ListN.{getD, replicate}
 use Rattle.rules.specs.Words.{mask, values, judge}
 use Rattle.rules.specs.Names.{variables, max-stations, LIST, STATE}
 use Rattle.rules.specs.Records.{Record}
-use Rattle.rules.specs.List.{stations, sound-list}
+use Rattle.rules.specs.List.{sound-list}
 use Rattle.rules.specs.State.{State, sound-state}
 use Rattle.rules.specs.Ready.{next-step, ready, waiting, ended}
 use Rattle.rules.specs.Lights.{reads, writes, touches, in-turn, lights}
-use Rattle.laws.proofs.Choice.{surely}
+use Rattle.laws.specs.Passed.{Known}
+use Rattle.laws.proofs.Sound.{at-most-eight}
 use Rattle.laws.proofs.Places.{getD-values, values-same}
-use Rattle.touches.specs.Touched.{touched}
+use Rattle.touches.specs.Touched.{touched, touched-by}
 use Rattle.touches.proofs.Sound.{touches-so}
+use Rattle.touches.specs.declared.Touched.{Touched}
 use Rattle.lights.specs.declared.masks.Masks.{Masks}
 use Rattle.lights.specs.View.{refused-by}
-use Rattle.lights.specs.Masks.{Sound, Gathered, with-bit, mask-from, row-from, masks-from}
+use Rattle.lights.specs.Masks.{Room, mask-from, row-from, row-with, with-station, masks-from}
 use Rattle.lights.proofs.Bits.{mask-from-none, mask-from-more, mask-from-all, mask-from-small}
 
 -- refused: all zeros but the number
@@ -35,19 +35,10 @@ refused-state list s e d = rw (e, d)
 
 -- both tests of the code passed
 pub sound-both : {list : List ℕ} {s : State} {a b : Bool}
-    → a ≡ sound-list list → not a ≡ false → b ≡ sound-state list s → not b ≡ false → Sound list s
+    → a ≡ sound-list list → not a ≡ false → b ≡ sound-state list s → not b ≡ false → Known list s
 sound-both {a = a} {b = b} e p f q = record { of-list = sym e ∙ not-false a p; of-state = sym f ∙ not-false b q }
 
-module _ (list : List ℕ) (s : State) (sound : Sound list s) where
-  -- a sound state has at most eight stations
-  pub few : s .n ≤ max-stations
-  unfolding sound-list sound-state
-  few =
-      let most = leb-true (stations list) max-stations
-      (surely (leb (stations list) max-stations) (λ e. simp (e, and-false) at (sound .of-list))) in
-      let same = eqb-true (s .n) (stations list) (surely (eqb (s .n) (stations list)) (λ e. simp e at (sound .of-state))) in
-      omega arith
-
+module _ (list : List ℕ) (s : State) (known : Known list s) where
   -- no station
   row-none : (does : ℕ → Record → Bool) → replicate variables 0 ≡ row-from does list s (s .n)
   unfolding values
@@ -75,39 +66,29 @@ module _ (list : List ℕ) (s : State) (sound : Sound list s) where
       )
 
   -- one station more
-  abbrev row-with : (ℕ → Record → Bool) → ℕ → List ℕ → List ℕ
-  row-with does j row =
-      values (λ v. with-bit (getD (values (λ i. touched (does i) list (next-step list s j)) variables) v false) (getD row v 0)) variables
-
-  row-more : (does : ℕ → Record → Bool) (j : ℕ) → j < s .n → row-with does j (row-from does list s (j + 1)) ≡ row-from does list s j
+  row-more : (does : ℕ → Record → Bool) (j : ℕ) → j < s .n
+      → row-with (values (λ v. touched (does v) list (next-step list s j)) variables) (row-from does list s (j + 1)) ≡ row-from does list s j
   row-more does j within =
       values-same _ _ variables
       (λ v l.
       rw (
         getD-values (λ i. touched (does i) list (next-step list s j)) variables v false l,
         getD-values (λ i. mask-from (touches (does i) list s) (s .n) (j + 1)) variables v 0 l,
-        touches-so (does v) list s j (sound .of-list),
+        touches-so (does v) list s j (known .of-list),
       )
       (mask-from-more (touches (does v) list s) (s .n) j within))
 
-  pub gathered-more : {before : Masks} {j a b c d : ℕ} {e f : List ℕ} → Gathered list s j before
-      → a ≡ with-bit (ready list s j) (before .ready)
-      → b ≡ with-bit (in-turn list s j) (before .«in_turn»)
-      → c ≡ with-bit (waiting list s j) (before .waiting)
-      → d ≡ with-bit (ended list s j) (before .ended)
-      → e ≡ row-with reads j (before .reads)
-      → f ≡ row-with writes j (before .writes)
-      → _≡_ {A = Masks} (record { ready = a; «in_turn» = b; waiting = c; ended = d; reads = e; writes = f }) (masks-from list s j)
-  gathered-more {before} {j} g a b c d e f =
-      let station = g .station in
+  pub gathered-more : {masks : Masks} {j : ℕ} {a b c d : Bool} {t : Touched} → j < s .n → masks ≡ masks-from list s (j + 1)
+      → a ≡ ready list s j → b ≡ in-turn list s j → c ≡ waiting list s j → d ≡ ended list s j → t ≡ touched-by list (next-step list s j)
+      → with-station masks a b c d t ≡ masks-from list s j
+  gathered-more {j = j} station so-far a b c d t =
       rw (
+        so-far,
         a,
         b,
         c,
         d,
-        e,
-        f,
-        g .so-far,
+        t,
         mask-from-more (ready list s) (s .n) j,
         mask-from-more (in-turn list s) (s .n) j,
         mask-from-more (waiting list s) (s .n) j,
@@ -116,31 +97,25 @@ module _ (list : List ℕ) (s : State) (sound : Sound list s) where
         row-more writes j,
       )
 
-  -- each mask has room for it
-  pub record Room (masks : Masks) : Type 0 where
-    pub ready : masks .ready < 128
-    pub turn : masks .«in_turn» < 128
-    pub waiting : masks .waiting < 128
-    pub ended : masks .ended < 128
-    pub reads : (v : ℕ) → v < variables → getD (masks .reads) v 0 < 128
-    pub writes : (v : ℕ) → v < variables → getD (masks .writes) v 0 < 128
+  abbrev few : s .n ≤ max-stations
+  few = at-most-eight known
 
   row-small : (does : ℕ → Record → Bool) (j v : ℕ) → v < variables → getD (row-from does list s (j + 1)) v 0 < 128
   row-small does j v within =
       rw (getD-values (λ i. mask-from (touches (does i) list s) (s .n) (j + 1)) variables v 0 within)
       (mask-from-small (touches (does v) list s) (s .n) j few)
 
-  pub room : {masks : Masks} {j : ℕ} → Gathered list s j masks → Room masks
-  room {masks} {j} g =
-      rw (g .so-far)
-      (record {
+  -- each mask has room for it
+  pub room : (j : ℕ) → Room (masks-from list s (j + 1))
+  room j =
+      record {
         ready = mask-from-small (ready list s) (s .n) j few;
         turn = mask-from-small (in-turn list s) (s .n) j few;
         waiting = mask-from-small (waiting list s) (s .n) j few;
         ended = mask-from-small (ended list s) (s .n) j few;
         reads = row-small reads j;
         writes = row-small writes j;
-      })
+      }
 
   -- all stations
   row-all : (does : ℕ → Record → Bool) → row-from does list s 0 ≡ values (λ v. mask (touches (does v) list s) (s .n)) variables
@@ -160,8 +135,8 @@ module _ (list : List ℕ) (s : State) (sound : Sound list s) where
   gathered-all r e =
       rw (
         e,
-        sound .of-list,
-        sound .of-state,
+        known .of-list,
+        known .of-state,
         mask-from-all (ready list s) (s .n),
         mask-from-all (in-turn list s) (s .n),
         mask-from-all (waiting list s) (s .n),

@@ -1,21 +1,16 @@
 -- The masks of the stations from one on, as the code gathers them from the last station down. These are definitions.
-use mathlib.Core.Path.{_≡_}
-use mathlib.Core.Bool.{Bool, true}
+use mathlib.Core.Bool.{Bool, false}
 use mathlib.Core.List.{List}
 use Prim.Native.Nat.{ℕ, _+_, _-_, _*_, _<_}
+use lib.ListN.{getD}
 use Rattle.rules.specs.Words.{if_then_else_, mask, values}
 use Rattle.rules.specs.Names.{variables}
 use Rattle.rules.specs.Records.{Record}
-use Rattle.rules.specs.List.{sound-list}
-use Rattle.rules.specs.State.{State, sound-state}
+use Rattle.rules.specs.State.{State}
 use Rattle.rules.specs.Ready.{ready, waiting, ended}
 use Rattle.rules.specs.Lights.{reads, writes, touches, in-turn}
+use Rattle.touches.specs.declared.Touched.{Touched}
 use Rattle.lights.specs.declared.masks.Masks.{Masks}
-
--- what is known by the time that the masks are gathered
-pub record Sound (list : List ℕ) (s : State) : Type 0 where
-  pub of-list : sound-list list ≡ true
-  pub of-state : sound-state list s ≡ true
 
 -- a mask with a place more before its own
 abbrev pub with-bit : Bool → ℕ → ℕ
@@ -40,8 +35,27 @@ masks-from list s j =
       writes = row-from writes list s j;
     }
 
--- the masks from the station after j on are gathered
-pub record Gathered (list : List ℕ) (s : State) (j : ℕ) (masks : Masks) : Type 0 where
-  pub sound : Sound list s
-  pub station : j < s .n
-  pub so-far : masks ≡ masks-from list s (j + 1)
+-- each mask has room for a station more
+pub record Room (masks : Masks) : Type 0 where
+  pub ready : masks .ready < 128
+  pub turn : masks .«in_turn» < 128
+  pub waiting : masks .waiting < 128
+  pub ended : masks .ended < 128
+  pub reads : (v : ℕ) → v < variables → getD (masks .reads) v 0 < 128
+  pub writes : (v : ℕ) → v < variables → getD (masks .writes) v 0 < 128
+
+-- a row with a station more before its own, which touches these variables
+abbrev pub row-with : List Bool → List ℕ → List ℕ
+row-with touched row = values (λ v. with-bit (getD touched v false) (getD row v 0)) variables
+
+-- the masks with a station more before their own
+abbrev pub with-station : Masks → Bool → Bool → Bool → Bool → Touched → Masks
+with-station masks ready in-turn waiting ended touched =
+    record {
+      ready = with-bit ready (masks .ready);
+      «in_turn» = with-bit in-turn (masks .«in_turn»);
+      waiting = with-bit waiting (masks .waiting);
+      ended = with-bit ended (masks .ended);
+      reads = row-with (touched .reads) (masks .reads);
+      writes = row-with (touched .writes) (masks .writes);
+    }

@@ -4,11 +4,10 @@ ghost use Prim.Native.Nat.{ℕ, _<_};
 ghost use mathlib.Core.Bool.{false};
 ghost use lib.ListN.{getD};
 ghost use Rattle.rules.specs.Words.{values};
-ghost use Rattle.rules.specs.Names.{variables, max-stations};
-ghost use Rattle.rules.specs.Ready.{next-step};
+ghost use Rattle.rules.specs.Names.{variables};
+ghost use Rattle.laws.specs.Passed.{Known};
 ghost use Rattle.run.specs.View.{as-state};
-ghost use Rattle.touches.specs.Touched.{touched-by};
-ghost use Rattle.lights.specs.Masks.{with-bit, masks-from, Sound, Gathered};
+ghost use Rattle.lights.specs.Masks.{with-bit, with-station, masks-from, Room};
 use record::ListRecord;
 use run::State;
 use touches::Touched;
@@ -28,11 +27,15 @@ pub(crate) struct Masks {
 }
 
 impl Masks {
-    // The masks of all stations, in a sound state of a sound list.
+    // The masks of all stations, in a sound state of a sound list. Readiness is worked out once.
     pub(crate) fn of(state: State, list: &[u8]) -> Masks
-        requires { ⌜ Sound (now list) (as-state state) ⌝ }
+        requires { ⌜ Known (now list) (as-state state) ⌝ }
         ensures { λ r. ⌜ r ≡ masks-from (now (list .entry)) (as-state state) 0 ⌝ }
     {
+        let positions = state.positions;
+        let priorities = state.priorities;
+        let n = state.n as usize;
+        let all = stations::readiness(list, &state.vars, positions);
         let mut masks = Masks {
             ready: 0,
             in_turn: 0,
@@ -41,24 +44,30 @@ impl Masks {
             reads: [0u8; 32],
             writes: [0u8; 32],
         };
-        let mut j = state.n as usize;
+        let mut j = n;
         while 0 < j {
             j -= 1;
-            masks = masks.with_station(state, list, j);
+            let e = ListRecord::at(list, positions[j] as usize);
+            let in_turn = all[j] & stations::lowest_of(all, priorities, n, j);
+            let waiting = stations::waiting_at(&state.vars, e);
+            let ended = stations::ended_at(e);
+            masks = masks.with_station(all[j], in_turn, waiting, ended, Touched::of(list, e));
         }
         masks
     }
 
-    // The masks from station j on, of those from the station after it on.
-    fn with_station(self, state: State, list: &[u8], j: usize) -> Masks
-        requires { ⌜ Gathered (now list) (as-state state) j self ⌝ }
-        ensures { λ r. ⌜ r ≡ masks-from (now (list .entry)) (as-state state) j ⌝ }
+    // The masks with a station more before their own, of which this is known.
+    fn with_station(
+        self,
+        ready: bool,
+        in_turn: bool,
+        waiting: bool,
+        ended: bool,
+        touched: Touched,
+    ) -> Masks
+        requires { ⌜ Room self ⌝ }
+        ensures { λ r. ⌜ r ≡ with-station self ready «in_turn» waiting ended touched ⌝ }
     {
-        let ready = state.ready(list, j);
-        let in_turn = ready & state.lowest(list, j);
-        let waiting = state.waiting(list, j);
-        let ended = state.ended(list, j);
-        let touched = touched(state, list, j);
         let read = touched.reads;
         let written = touched.writes;
         let reads = self.reads;
@@ -72,15 +81,6 @@ impl Masks {
             writes: with_bits(writes, written),
         }
     }
-}
-
-// What station j's next step touches.
-fn touched(state: State, list: &[u8], j: usize) -> Touched
-    requires { ⌜ j < max-stations ⌝ }
-    ensures { λ r. ⌜ r ≡ touched-by (now (list .entry)) (next-step (now (list .entry)) (as-state state) j) ⌝ }
-{
-    let place = state.positions[j] as usize;
-    Touched::of(list, ListRecord::at(list, place))
 }
 
 // A mask with a station more before its own, whose bit 0 is this.

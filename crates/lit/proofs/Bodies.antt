@@ -15,7 +15,8 @@ use Rattle.rules.specs.List.{outside, inside, sound-list}
 use Rattle.rules.specs.Lights.{led-to, body}
 use Rattle.laws.proofs.Choice.{by-test}
 use Rattle.lit.specs.Reached.{Reached, itself, by-t1, by-t2, BodyIsReached}
-use Rattle.lit.proofs.Inside.{Onward, inside-means, await-leads-in}
+use Rattle.laws.proofs.Sound.{Onward, inside-means}
+use Rattle.lit.proofs.Inside.{await-leads-in}
 
 among-two : (q a b : ℕ) (more : List ℕ) → among q (a ∷ b ∷ []) ≡ true → among q (a ∷ b ∷ more) ≡ true
 among-two q a b more here =
@@ -74,7 +75,7 @@ module _ (list : List ℕ) (sound : sound-list list ≡ true) (station t : ℕ) 
       (λ here.
       let e = list-record-at list place in
       let r = reached place here (λ none. omega arith) in
-      let byte = inside-means list sound station place (reached-inside r) .byte in
+      let byte = inside-means list sound station place (reached-inside r) .byte-is in
       let targets : (w : ℕ) → among w (e .t1 ∷ e .t2 ∷ wanted) ≡ true → (w ≡ 0 → ⊥) → Reached list t w = λ w among-them other.
       by-test (eqb w (e .t1))
       (λ is. let same = eqb-true w (e .t1) is in rw same (by-t1 r byte (λ none. other (same ∙ none))))

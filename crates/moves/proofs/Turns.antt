@@ -11,7 +11,7 @@ use borrow.Author.Tests.{ne-eqb}
 use Rattle.rules.specs.Records.{ListRecord, record-from, list-record-at}
 use Rattle.rules.specs.Values.{set-value, assigned}
 use Rattle.rules.specs.Start.{initial-run}
-use Rattle.rules.specs.Step.{vars-after, target-after, body-run}
+use Rattle.rules.specs.Move.{vars-after, target-after, body-run}
 use Rattle.record.proofs.Bytes.{past, spelled}
 
 -- target 0 leaves a body, however many records may still be run

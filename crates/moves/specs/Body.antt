@@ -3,7 +3,7 @@ use mathlib.Core.Path.{_≡_}
 use mathlib.Core.List.{List}
 use Prim.Native.Nat.{ℕ}
 use Rattle.rules.specs.Records.{list-record-at}
-use Rattle.rules.specs.Step.{vars-after, target-after}
+use Rattle.rules.specs.Move.{vars-after, target-after}
 
 -- the body from a place on, begun with some variables, ends with others
 pub data Ends (list : List ℕ) : ℕ → List ℕ → List ℕ → Type 0 where

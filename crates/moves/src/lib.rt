@@ -5,7 +5,7 @@ ghost use lib.ListN.{getD};
 ghost use Rattle.rules.specs.Values as rules;
 ghost use Rattle.rules.specs.Values.{plus, minus, set-value, compares};
 ghost use Rattle.rules.specs.Start.{initial-run};
-ghost use Rattle.rules.specs.Step.{vars-after, target-after, body-run, step-vars, step-position};
+ghost use Rattle.rules.specs.Move.{vars-after, target-after, body-run, step-vars, step-position};
 ghost use Rattle.rules.specs.Records.{list-count};
 ghost use Rattle.record.specs.View.{as-record, as-list-record};
 use record::ListRecord;

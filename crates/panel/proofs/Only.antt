@@ -5,7 +5,7 @@ use Prim.Native.Nat.{ℕ}
 use Rattle.rules.specs.Records.{Pick}
 use Rattle.rules.specs.State as rules-state
 use Rattle.run.specs.declared.State.{State}
-use Rattle.run.specs.declared.Stepped.{Stepped}
+use Rattle.run.specs.declared.Outcome.{Outcome}
 use Rattle.run.proofs.Only.{step-only}
 use Rattle.panel.specs.Promises.{AdvancePromise}
 
@@ -14,4 +14,4 @@ pub advance-only : (list : List ℕ) (given : rules-state.State) (log : List ℕ
     → (r ≡ s) × (left ≡ found) × (after ≡ later)
 advance-only list given log p r s left found after later e f =
     let (answer, logs) = step-only list given log p (record { number = r; state = left }) (record { number = s; state = found }) after later e f in
-    (ap (λ (a : Stepped). a .number) answer, ap (λ (a : Stepped). a .state) answer, logs)
+    (ap (λ (a : Outcome). a .number) answer, ap (λ (a : Outcome). a .state) answer, logs)

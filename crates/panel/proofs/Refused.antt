@@ -7,9 +7,9 @@ use lib.Dec.{T as Holds, eqb}
 use Rattle.rules.specs.Records.{Pick}
 use Rattle.rules.specs.State as rules-state
 use Rattle.rules.specs.Step as rules
-use Rattle.fair.proofs.Taken.{step-refused}
+use Rattle.laws.proofs.Answers.{step-refused}
 use Rattle.run.specs.declared.State.{State}
-use Rattle.run.specs.declared.Stepped.{Stepped}
+use Rattle.run.specs.declared.Outcome.{Outcome}
 use Rattle.run.specs.View.{as-state}
 use Rattle.run.specs.Promises.{StepPromise}
 use Rattle.panel.specs.Promises.{AdvancePromise}
@@ -19,7 +19,7 @@ fails true t = absurd t
 fails false t = refl
 
 -- where the number of a step's answer is not 0, the step leaves the state that it was given
-pub stays : (s : State) (list log : List ℕ) (p : Pick) (r : Stepped) (after : List ℕ) → StepPromise list (as-state s) log p r after
+pub stays : (s : State) (list log : List ℕ) (p : Pick) (r : Outcome) (after : List ℕ) → StepPromise list (as-state s) log p r after
     → Holds (not (eqb (r .number) 0)) → AdvancePromise list (as-state s) log p (r .number) s after
 stays s list log p r after e t =
     let number = ap (λ (a : rules.Stepped). a .number) e in

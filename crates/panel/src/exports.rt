@@ -9,11 +9,9 @@ ghost use Rattle.panel.specs.Promises.{AdvancePromise};
 use crate::advance;
 use build::Built;
 use lights::Lights;
+use run::Outcome;
 use run::Ran;
-use run::Started;
 use run::State;
-use run::Stepped;
-use run::Undone;
 use sequence::Checked;
 
 // Checks a written sequence: 0 and place 0, or the first refusal and its place.
@@ -34,7 +32,7 @@ pub extern "C" fn press_build(file: &[u8], list: &mut [u8]) -> Built
 
 // The start of a run, with its start records in the log. A refusal answers a state of zeros and leaves the log as it was.
 #[no_mangle]
-pub extern "C" fn press_start(list: &[u8], b: u8, resets: &[u8], log: &mut [u8]) -> Started
+pub extern "C" fn press_start(list: &[u8], b: u8, resets: &[u8], log: &mut [u8]) -> Outcome
     ensures { λ r. ⌜ StartPromise (now (list .entry)) b (now (resets .entry)) (now (log .entry)) r (now (log .exit)) ⌝ }
 {
     run::start(list, b, resets, log)
@@ -49,7 +47,7 @@ pub extern "C" fn press_step(
     log: &mut [u8],
     station: u8,
     reset: u8,
-) -> Stepped
+) -> Outcome
     ensures { λ r. ⌜ StepPromise (now (list .entry)) (as-state state) (now (log .entry)) (record { station = station; reset = reset }) r (now (log .exit)) ⌝ }
 {
     state.step(list, log, station, reset)
@@ -87,7 +85,7 @@ pub extern "C" fn press_run(
 
 // The state before the last step, by the log, which stays. A refusal answers the state given.
 #[no_mangle]
-pub extern "C" fn press_undo(state: State, list: &[u8], log: &[u8]) -> Undone
+pub extern "C" fn press_undo(state: State, list: &[u8], log: &[u8]) -> Outcome
     ensures { λ r. ⌜ UndoPromise (now (list .entry)) (as-state state) (now (log .entry)) r ⌝ }
 {
     state.undo(list, log)

@@ -3,29 +3,24 @@ use mathlib.Core.Path.{_≡_, sym, ap, _∙_}
 use mathlib.Core.List.{List, tail}
 use Prim.Native.Nat.{ℕ}
 use native.Mathlib.Omega.{arith}
-use lib.Dec.{leb}
 use lib.ListN.{length}
-use borrow.Author.Tests.{leb-true, not-false}
-use Rattle.rules.specs.Names.{max-stations}
 use Rattle.rules.specs.Records.{Record, records, record-at, record-count}
 use Rattle.rules.specs.Shape.{well-shaped}
 use Rattle.rules.specs.Check.{station-count}
 use Rattle.rules.specs.Trees.{Statements, stations-of, initial-part, parts-of, leading-sets}
-use Rattle.laws.proofs.Choice.{both-right}
 use Rattle.reading.specs.Reading.{flat-file, Sets, Stations}
 use Rattle.reading.specs.Accepted.{Accepted, Reads}
 use Rattle.reading.proofs.Whole.{Whole, whole}
 use Rattle.reading.proofs.Back.{back-file, leading-file}
 use Rattle.reading.proofs.Counted.{tally-in, counted, stations-in}
-use Rattle.reading.proofs.Passed.{passed, file-bare, kinds-values}
+use Rattle.reading.proofs.Passed.{file-bare, kinds-values}
 
 module _ (file : List ℕ) where
   whole-file : Accepted file → Whole (records file)
   unfolding well-shaped
   whole-file e =
-      let p = passed file e in
-      let shape = ap well-shaped (kinds-values (record-at file) (record-count file)) ∙ not-false _ (p .shape) in
-      whole (records file) (file-bare file p) shape
+      let shape = ap well-shaped (kinds-values (record-at file) (record-count file)) ∙ e .shape in
+      whole (records file) (file-bare file e) shape
 
   -- whatever reading of a file there is, it is this one
   pub reading-only : (initial : List Record) (stations : List Statements) → Sets initial → Stations stations
@@ -46,7 +41,6 @@ module _ (file : List ℕ) where
   unfolding initial-part stations-of
   reading-is e =
       let w = whole-file e in
-      let c = not-false _ (passed file e .count) in
       let n = stations-counted e in
-      let high = leb-true (station-count file) max-stations (both-right (leb 1 (station-count file)) _ c) in
+      let high = e .few-stations in
       record { same = w .same; sets = w .sets; stations = w .stations; one-at-least = w .one-at-least; eight-at-most = omega arith }

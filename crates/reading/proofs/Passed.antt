@@ -1,48 +1,55 @@
--- A file that check accepts passes its tests of fields, count and shape; and where the fields are right, a record of a kind that the
+-- Check accepts a file exactly when it passes the five tests; and where the fields are right, a record of a kind that the
 -- table leaves all zero is bare. Assumes nothing.
-use mathlib.Core.Path.{_≡_, refl, sym, ap, _∙_}
-use mathlib.Core.Bool.{Bool, true, false, _&&_, not}
+use mathlib.Core.Path.{_≡_, refl, ap}
+use mathlib.Core.Logic.{_↔_}
+use mathlib.Core.Bool.{true, _&&_, not}
 use mathlib.Core.List.{List, _∷_}
 use Prim.Native.Nat.{ℕ, zero, suc, _<_}
 use native.Mathlib.Omega.{arith}
-use lib.Dec.{eqb, leb, ltb}
-use borrow.Author.Tests.{eqb-true, ltb-false, not-false}
-use Rattle.rules.specs.Words.{values, Answer, Test, _refuses_at_, judge}
+use lib.Dec.{eqb}
+use borrow.Author.Tests.{eqb-true, leb-true, le-leb, ltb-false, le-ltb, not-false}
+use Rattle.rules.specs.Words.{values}
 use Rattle.rules.specs.Names.{max-stations}
 use Rattle.rules.specs.Records.{Record, record-at, record-count, records}
 use Rattle.rules.specs.Fields.{fields-right, rules-of}
-use Rattle.rules.specs.Shape.{well-shaped}
-use Rattle.rules.specs.Check.{kinds, wrong-length, field-place, station-count, depth-place, check}
-use Rattle.laws.proofs.Choice.{by-test, both-left, both-right}
-use Rattle.laws.proofs.Judge.{judge-yes, judge-no}
+use Rattle.rules.specs.Check.{field-place, station-count, depth-place, check-tests, check}
+use Rattle.laws.proofs.Choice.{both-left, both-right, split}
+use Rattle.laws.proofs.Judge.{unrefused, judge-silent}
 use Rattle.laws.proofs.Places.{first-before}
 use Rattle.reading.specs.Accepted.{Accepted}
 use Rattle.reading.proofs.Walk.{kinds-of, Bare, All-bare}
 
--- no test refuses, so the first one does not, nor do the others
-passes : (b : Bool) (n p : ℕ) (ts : List Test) → judge ((b refuses suc n at p) ∷ ts) ≡ record { number = 0; place = 0 }
-    → (b ≡ false) × (judge ts ≡ record { number = 0; place = 0 })
-passes b n p ts e =
-    by-test b
-    (λ t. let z : suc n ≡ 0 = ap (λ (a : Answer). a .number) (sym (judge-yes b (suc n) p ts t) ∙ e) in absurd (omega arith))
-    (λ f. (f, sym (judge-no b (suc n) p ts f) ∙ e))
-
-pub record Passed (file : List ℕ) : Type 0 where
-  pub size : wrong-length file ≡ false
-  pub fields : ltb (field-place file) (record-count file) ≡ false
-  pub count : not (leb 1 (station-count file) && leb (station-count file) max-stations) ≡ false
-  pub shape : not (well-shaped (kinds file)) ≡ false
-  pub depth : ltb (depth-place file) (record-count file) ≡ false
-
-pub passed : (file : List ℕ) → Accepted file → Passed file
+pub accepted-is : (file : List ℕ) → (check file .number ≡ 0) ↔ Accepted file
 unfolding check
-passed file e =
-    let a = passes _ _ _ _ e in
-    let b = passes _ _ _ _ (a .1) in
-    let c = passes _ _ _ _ (b .1) in
-    let d = passes _ _ _ _ (c .1) in
-    let f = passes _ _ _ _ (d .1) in
-    record { size = a .0; fields = b .0; count = c .0; shape = d .0; depth = f .0 }
+accepted-is file =
+    let tests = unrefused (check-tests file) refl in (
+      λ h.
+          let t = tests .0 h in
+          let (low, high) = split _ _ (not-false _ (t .1 .1 .0)) in
+          record {
+            size = t .0;
+            fields = ltb-false (field-place file) (record-count file) (t .1 .0);
+            some-station = leb-true 1 (station-count file) low;
+            few-stations = leb-true (station-count file) max-stations high;
+            shape = not-false _ (t .1 .1 .1 .0);
+            depth = ltb-false (depth-place file) (record-count file) (t .1 .1 .1 .1 .0);
+          },
+      λ h. tests .1 (
+        h .size,
+        (
+          le-ltb (field-place file) (record-count file) (h .fields),
+          (
+            rw (le-leb 1 (station-count file) (h .some-station), le-leb (station-count file) max-stations (h .few-stations)),
+            (rw (h .shape), (le-ltb (depth-place file) (record-count file) (h .depth), tt)),
+          ),
+        ),
+      ),
+    )
+
+-- "An accepted sequence answers 0 and place 0"
+pub check-accepts : (file : List ℕ) → Accepted file → check file ≡ record { number = 0; place = 0 }
+unfolding check
+check-accepts file h = judge-silent (check-tests file) (unrefused (check-tests file) refl .0 (accepted-is file .1 h))
 
 bare-right : (r : Record) → fields-right r ≡ true → Bare r
 unfolding fields-right rules-of
@@ -61,10 +68,10 @@ unfolding values
 all-bare f zero h = tt
 all-bare f (suc n) h = (bare-right (f 0) (h 0 (omega arith)), all-bare (λ i. f (suc i)) n (λ i l. h (suc i) (omega arith)))
 
-pub file-bare : (file : List ℕ) → Passed file → All-bare (records file)
+pub file-bare : (file : List ℕ) → Accepted file → All-bare (records file)
 unfolding field-place
 file-bare file p =
-    let none = ltb-false (field-place file) (record-count file) (p .fields) in
+    let none = p .fields in
     all-bare (record-at file) (record-count file)
     (λ i h. not-false _ (first-before (λ i. not (fields-right (record-at file i))) (record-count file) i (omega arith)))
 

@@ -1,17 +1,24 @@
--- What there is to say of a file that check accepts. These are definitions.
+-- A file that passes the five tests, and what there is to say of it. These are definitions.
 use Prim.Native.Nat.{ℕ, _≤_}
 use mathlib.Core.Path.{_≡_}
+use mathlib.Core.Bool.{true, false}
 use mathlib.Core.List.{List}
 use lib.ListN.{length}
 use Rattle.rules.specs.Names.{max-stations}
-use Rattle.rules.specs.Records.{records}
-use Rattle.rules.specs.Check.{check}
+use Rattle.rules.specs.Records.{record-count, records}
+use Rattle.rules.specs.Shape.{well-shaped}
+use Rattle.rules.specs.Check.{kinds, wrong-length, field-place, station-count, depth-place}
 use Rattle.rules.specs.Trees.{initial-part, stations-of}
 use Rattle.reading.specs.Reading.{flat-file, Sets, Stations}
 
--- "An accepted sequence answers 0 and place 0"
-abbrev pub Accepted : List ℕ → Type 0
-Accepted file = check file ≡ record { number = 0; place = 0 }
+-- none of tests 1 to 5 refuses it, which is when check answers 0 (`accepted-is`)
+pub record Accepted (file : List ℕ) : Type 0 where
+  pub size : wrong-length file ≡ false
+  pub fields : record-count file ≤ field-place file
+  pub some-station : 1 ≤ station-count file
+  pub few-stations : station-count file ≤ max-stations
+  pub shape : well-shaped (kinds file) ≡ true
+  pub depth : record-count file ≤ depth-place file
 
 -- its initial part and its stations are a reading of it: their records, in order, are the file's
 pub record Reads (file : List ℕ) : Type 0 where

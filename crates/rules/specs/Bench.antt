@@ -21,7 +21,8 @@ use Rattle.rules.specs.State.{State, zeros, few-low, empty-at, sound-sta
 use Rattle.rules.specs.Values.{set-value, holds}
 use Rattle.rules.specs.Start.{initial-run, started, start-records, start}
 use Rattle.rules.specs.Ready.{ended, waiting, ready, lowest}
-use Rattle.rules.specs.Step.{body-run, step-vars, step-position, charge, stepped, step}
+use Rattle.rules.specs.Move.{body-run, step-vars, step-position}
+use Rattle.rules.specs.Step.{charge, stepped, picked, step}
 use Rattle.rules.specs.Undo.{replay, starts-right, replayed, undo}
 use Rattle.rules.specs.Lights.{reads, writes, led-to, body, some-of, touches, lights}
 use Rattle.rules.specs.Trace.{decimal-digits, priorities-text, line, end-line, taken-pick, picks-text, run-text, start-text, trace}
@@ -243,7 +244,7 @@ table =
     ∷ []
 
 all-hold : Every table
-unfolding each first tally mask values changed written judge record-from list-record-at rules-of fields-right stride wrong-at walked well-shaped too-deep-at check wrong-length field-place station-count depth-place parts-of stations-of leading-sets initial-part size laid inits bodies list-of bytes-of build stations initials is-at init-right initial-right outside-targets inside-targets later-right sound-list few-low empty-at sound-state set-value holds initial-run started start-records start ended waiting ready lowest body-run step-vars step-position charge stepped step replay starts-right replayed undo reads writes led-to body some-of touches lights decimal-digits priorities-text line end-line taken-pick picks-text run-text start-text trace stepped-on called calls-from answers passed-over
+unfolding each first tally mask values changed written judge record-from list-record-at rules-of fields-right stride wrong-at walked well-shaped too-deep-at check wrong-length field-place station-count depth-place parts-of stations-of leading-sets initial-part size laid inits bodies list-of bytes-of build stations initials is-at init-right initial-right outside-targets inside-targets later-right sound-list few-low empty-at sound-state set-value holds initial-run started start-records start ended waiting ready lowest body-run step-vars step-position charge stepped picked step replay starts-right replayed undo reads writes led-to body some-of touches lights decimal-digits priorities-text line end-line taken-pick picks-text run-text start-text trace stepped-on called calls-from answers passed-over
 all-hold =
     refl and refl and refl and refl and refl and refl and refl and refl and refl and refl
     and refl and refl and refl and refl and refl and refl and refl and refl and refl and refl and refl and refl and refl and refl and done

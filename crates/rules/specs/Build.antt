@@ -90,9 +90,11 @@ pub record Built : Type 0 where
   pub buffer : List ℕ
 
 -- "ROOM if the lent buffer is shorter"
+abbrev pub room-tests : List ℕ → List ℕ → List Test
+room-tests file buffer = (ltb (length buffer) (16 * length (list-records file)) refuses ROOM at 0) ∷ []
+
 abbrev pub build-tests : List ℕ → List ℕ → List Test
-build-tests file buffer =
-    check-tests file ++ ((ltb (length buffer) (16 * length (list-records file)) refuses ROOM at 0) ∷ [])
+build-tests file buffer = check-tests file ++ room-tests file buffer
 
 -- "On success bytes past the list stay"
 unfoldable pub build : List ℕ → List ℕ → Built

@@ -11,7 +11,9 @@ pub mod List
 pub mod State
 pub mod Values
 pub mod Start
+pub mod Turn
 pub mod Ready
+pub mod Move
 pub mod Step
 pub mod Run
 pub mod Undo

@@ -10,7 +10,7 @@ use Rattle.rules.specs.Names.{LIST, RESET, ROOM, variables, max-stations
 use Rattle.rules.specs.Records.{list-record-at}
 use Rattle.rules.specs.List.{stations, initials, sound-list}
 use Rattle.rules.specs.Values.{assigned}
-use Rattle.rules.specs.State.{State, zeros}
+use Rattle.rules.specs.State.{State, stepless, zeros}
 
 -- variables "begin at 0": so many initial records are run, from a place on
 unfoldable pub initial-run : List ℕ → ℕ → ℕ → List ℕ → List ℕ
@@ -22,14 +22,11 @@ initial-run list place (suc count) vars =
 unfoldable pub started : List ℕ → ℕ → List ℕ → State
 started list b resets =
     let n = stations list in
-    record {
-      vars = initial-run list n (initials list) (replicate variables 0);
-      positions = values (λ j. list-record-at list j .t1) n ++ replicate (max-stations - n) 0;
-      priorities = map pos resets ++ replicate (max-stations - n) (pos 0);
-      n = n;
-      b = b;
-      m = 0;
-    }
+    stepless
+    (initial-run list n (initials list) (replicate variables 0))
+    (values (λ j. list-record-at list j .t1) n ++ replicate (max-stations - n) 0)
+    (map pos resets ++ replicate (max-stations - n) (pos 0))
+    n b
 
 -- "n start records": station j and its reset, from station j on
 unfoldable pub start-records : ℕ → List ℕ → List ℕ

@@ -19,31 +19,60 @@ pub record State : Type 0 where
   pub b : ℕ
   pub m : ℕ
 
--- all zeros, which a refused START answers
-abbrev pub zeros : State
-zeros =
+-- A state is made in two ways: with no steps, and by one step more
+abbrev pub stepless : List ℕ → List ℕ → List ℤ → ℕ → ℕ → State
+stepless vars positions priorities n b =
     record {
-      vars = replicate variables 0;
-      positions = replicate max-stations 0;
-      priorities = replicate max-stations (pos 0);
-      n = 0;
-      b = 0;
+      vars = vars;
+      positions = positions;
+      priorities = priorities;
+      n = n;
+      b = b;
       m = 0;
     }
 
+abbrev pub one-step-on : State → List ℕ → List ℕ → List ℤ → State
+one-step-on s vars positions priorities =
+    record {
+      vars = vars;
+      positions = positions;
+      priorities = priorities;
+      n = s .n;
+      b = s .b;
+      m = s .m + 1;
+    }
+
+-- all zeros, which a refused START answers
+abbrev pub zeros : State
+zeros = stepless (replicate variables 0) (replicate max-stations 0) (replicate max-stations (pos 0)) 0 0
+
+-- a station's position and priority, of all positions and priorities
+abbrev pub position-in : List ℕ → ℕ → ℕ
+position-in positions j = getD positions j 0
+
+abbrev pub priority-in : List ℤ → ℕ → ℤ
+priority-in priorities j = getD priorities j (pos 0)
+
 abbrev pub position : State → ℕ → ℕ
-position s j = getD (s .positions) j 0
+position s = position-in (s .positions)
 
 abbrev pub priority : State → ℕ → ℤ
-priority s j = getD (s .priorities) j (pos 0)
+priority s = priority-in (s .priorities)
 
 -- "for each k from 1 to n at most n-k of them are -k or lower"
+abbrev pub few-low-in : List ℤ → ℕ → ℕ → Bool
+few-low-in priorities n k = leb (tally (λ j. leZ (priority-in priorities j) (negℤ (pos k))) n + k) n
+
 unfoldable pub few-low : State → ℕ → Bool
-few-low s k = leb (tally (λ j. leZ (priority s j) (negℤ (pos k))) (s .n) + k) (s .n)
+few-low s = few-low-in (s .priorities) (s .n)
 
 -- "entries from n on are 0"
+abbrev pub empty-in : List ℕ → List ℤ → ℕ → Bool
+empty-in positions priorities j =
+    eqb (position-in positions j) 0 && leZ (priority-in priorities j) (pos 0) && leZ (pos 0) (priority-in priorities j)
+
 unfoldable pub empty-at : State → ℕ → Bool
-empty-at s j = eqb (position s j) 0 && leZ (priority s j) (pos 0) && leZ (pos 0) (priority s j)
+empty-at s = empty-in (s .positions) (s .priorities)
 
 -- "It is sound when n is the list's, m is at most 4,096, each of the first n positions is an outside record of its station, each priority
 -- is at most B", and the two above

@@ -31,7 +31,7 @@ first f (suc n) = if f 0 then 0 else suc (first (λ i. f (suc i)) n)
 -- at how many of the places 0 to n-1 the test holds
 unfoldable pub tally : (ℕ → Bool) → ℕ → ℕ
 tally f zero = 0
-tally f (suc n) = if f 0 then suc (tally (λ i. f (suc i)) n) else tally (λ i. f (suc i)) n
+tally f (suc n) = let rest = tally (λ i. f (suc i)) n in if f 0 then suc rest else rest
 
 -- the places 0 to n-1 at which the test holds, as a mask: place i is bit i
 unfoldable pub mask : (ℕ → Bool) → ℕ → ℕ

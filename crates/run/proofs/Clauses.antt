@@ -13,7 +13,7 @@ use Rattle.rules.specs.State.{State, position, priority, few-low, empty-at, sou
 use Rattle.laws.proofs.Places.{each-same}
 use Rattle.list.specs.Given.{later-after, is-at-from}
 use Rattle.list.proofs.Given.{later-counted, is-at-given}
-use Rattle.stations.specs.Parts.{few-low-in, empty-in}
+use Rattle.rules.specs.State.{few-low-in, empty-in}
 
 -- the whole, at the number of stations and the place of the first later record
 pub sound-given :

@@ -1,7 +1,6 @@
 pub mod Signed
 pub mod Clauses
-pub mod Changes
-pub mod Known
+pub mod Charges
 pub mod Picks
 pub mod Written
 pub mod Runs

@@ -9,10 +9,8 @@ use Rattle.rules.specs.Step as rules-step
 use Rattle.rules.specs.Run as rules-run
 use Rattle.rules.specs.Undo as rules-undo
 use Rattle.run.specs.declared.State.{State}
-use Rattle.run.specs.declared.Started.{Started}
-use Rattle.run.specs.declared.Stepped.{Stepped}
+use Rattle.run.specs.declared.Outcome.{Outcome}
 use Rattle.run.specs.declared.Ran.{Ran}
-use Rattle.run.specs.declared.Undone.{Undone}
 use Rattle.run.specs.Promises.{StartPromise, StepPromise, RunPromise, UndoPromise}
 
 -- the state that the rules' state is the view of
@@ -27,13 +25,13 @@ of-state s =
       m = s .m;
     }
 
-pub start-only : (list : List ℕ) (b : ℕ) (resets log : List ℕ) (r s : Started) (after later : List ℕ)
+pub start-only : (list : List ℕ) (b : ℕ) (resets log : List ℕ) (r s : Outcome) (after later : List ℕ)
     → StartPromise list b resets log r after → StartPromise list b resets log s later → (r ≡ s) × (after ≡ later)
 start-only list b resets log r s after later e f =
     let g = e ∙ sym f in
     (ap (λ (a : rules-start.Started). record { number = a .number; state = of-state (a .state) }) g, ap (λ (a : rules-start.Started). a .log) g)
 
-pub step-only : (list : List ℕ) (given : rules-state.State) (log : List ℕ) (p : Pick) (r s : Stepped) (after later : List ℕ)
+pub step-only : (list : List ℕ) (given : rules-state.State) (log : List ℕ) (p : Pick) (r s : Outcome) (after later : List ℕ)
     → StepPromise list given log p r after → StepPromise list given log p s later → (r ≡ s) × (after ≡ later)
 step-only list given log p r s after later e f =
     let g = e ∙ sym f in
@@ -45,7 +43,7 @@ run-only list given log picks most r s after later e f =
     let g = e ∙ sym f in
     (ap (λ (a : rules-run.Ran). record { number = a .number; state = of-state (a .state); steps = a .steps }) g, ap (λ (a : rules-run.Ran). a .log) g)
 
-pub undo-only : (list : List ℕ) (given : rules-state.State) (log : List ℕ) (r s : Undone)
+pub undo-only : (list : List ℕ) (given : rules-state.State) (log : List ℕ) (r s : Outcome)
     → UndoPromise list given log r → UndoPromise list given log s → r ≡ s
 undo-only list given log r s e f =
     ap (λ (a : rules-undo.Undone). record { number = a .number; state = of-state (a .state) }) (e ∙ sym f)

@@ -1,4 +1,4 @@
--- Priorities as 16-bit numbers. Assumes nothing.
+-- A priority that loses 1, as a 16-bit number. Assumes nothing.
 use Prim.Native.Nat.{ℕ, zero, suc, _≤_}
 use mathlib.Core.Path.{_≡_}
 use mathlib.Core.Bool.{false, true≢false}

@@ -1,8 +1,8 @@
 -- Bytes written to a log, one after another. Assumes nothing.
-use Prim.Native.Nat.{ℕ, zero, suc, _+_, _*_, _≤_, _<_}
-use mathlib.Core.Path.{_≡_, refl, _∙_}
+use Prim.Native.Nat.{ℕ, suc, _+_, _*_, _≤_, _<_}
+use mathlib.Core.Path.{_≡_, refl}
 use mathlib.Core.List.{List, [], _∷_, _++_, append-assoc}
-use native.Mathlib.Nat.{add-zero, zero-add, add-suc, suc-add, not-suc-le-zero, le-of-suc-le-suc}
+use native.Mathlib.Nat.{add-zero, zero-add, add-suc, suc-add}
 use native.Mathlib.Numerals.{add-one}
 use native.Mathlib.Omega.{arith}
 use lib.ListN.{length, getD, take, set, length-append}
@@ -10,8 +10,7 @@ use lib.Seq.{sets, sets-eq, take-suc, length-take-le}
 use Rattle.rules.specs.Words.{values, written}
 use Rattle.rules.specs.Records.{pick-at}
 use Rattle.rules.specs.Start.{start-records}
-use Rattle.laws.proofs.Places.{values-same}
-use Rattle.stations.proofs.Filled.{values-getD}
+use Rattle.laws.proofs.Written.{length-starts, resets-behind}
 
 -- a buffer that is long enough has the bytes set one by one
 written-sets : (log : List ℕ) (at : ℕ) (bytes : List ℕ) → at + length bytes ≤ length log → written log at bytes ≡ sets log at bytes
@@ -34,11 +33,6 @@ unfolding start-records
 start-records-snoc j [] reset = rw add-zero
 start-records-snoc j (x ∷ resets) reset = rw (add-suc, ← suc-add, start-records-snoc (suc j) resets reset)
 
-length-starts : (j : ℕ) (resets : List ℕ) → length (start-records j resets) ≡ 2 * length resets
-unfolding start-records
-length-starts j [] = refl
-length-starts j (x ∷ resets) = let h = length-starts (suc j) resets in omega arith
-
 -- one turn of a loop that writes the start records
 pub starts-more : (log resets : List ℕ) (j : ℕ) → j < length resets → 2 * length resets ≤ length log
     → set (set (written log 0 (start-records 0 (take j resets))) (2 * j) j) (2 * j + 1) (getD resets j 0)
@@ -59,16 +53,7 @@ starts-more log resets j within room =
     )
 
 -- the resets are read back from the start records
-reset-at : (k : ℕ) (resets rest : List ℕ) (j : ℕ) → j < length resets → getD (start-records k resets ++ rest) (2 * j + 1) 0 ≡ getD resets j 0
-unfolding start-records
-reset-at k [] rest j within = absurd (not-suc-le-zero within)
-reset-at k (x ∷ resets) rest zero within = refl
-reset-at k (x ∷ resets) rest (suc j) within =
-    let e : 2 * suc j + 1 ≡ suc (suc (2 * j + 1)) = omega arith in
-    rw e (reset-at (suc k) resets rest j (le-of-suc-le-suc within))
-
 pub resets-back : (log resets : List ℕ)
     → values (λ j. pick-at (written log 0 (start-records 0 resets)) j .reset) (length resets) ≡ resets
 unfolding written
-resets-back log resets =
-    values-same _ _ (length resets) (λ j within. reset-at 0 resets _ j within) ∙ values-getD resets 0
+resets-back log resets = resets-behind resets _ (length resets) refl

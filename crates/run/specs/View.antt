@@ -6,12 +6,9 @@ use Rattle.rules.specs.Start as rules-start
 use Rattle.rules.specs.Step as rules-step
 use Rattle.rules.specs.Run as rules-run
 use Rattle.rules.specs.Undo as rules-undo
-use Rattle.run.specs.Picked.{Picked}
 use Rattle.run.specs.declared.State.{State}
-use Rattle.run.specs.declared.Started.{Started}
-use Rattle.run.specs.declared.Stepped.{Stepped}
+use Rattle.run.specs.declared.Outcome.{Outcome}
 use Rattle.run.specs.declared.Ran.{Ran}
-use Rattle.run.specs.declared.Undone.{Undone}
 
 abbrev pub as-state : State → rules-state.State
 as-state s =
@@ -24,17 +21,17 @@ as-state s =
       m = s .m;
     }
 
-abbrev pub as-started : Started → List ℕ → rules-start.Started
+abbrev pub as-started : Outcome → List ℕ → rules-start.Started
 as-started r log = record { number = r .number; state = as-state (r .state); log = log }
 
-abbrev pub as-picked : Stepped → Picked
+abbrev pub as-picked : Outcome → rules-step.Picked
 as-picked r = record { number = r .number; state = as-state (r .state) }
 
-abbrev pub as-stepped : Stepped → List ℕ → rules-step.Stepped
+abbrev pub as-stepped : Outcome → List ℕ → rules-step.Stepped
 as-stepped r log = record { number = r .number; state = as-state (r .state); log = log }
 
 abbrev pub as-ran : Ran → List ℕ → rules-run.Ran
 as-ran r log = record { number = r .number; state = as-state (r .state); steps = r .steps; log = log }
 
-abbrev pub as-undone : Undone → rules-undo.Undone
+abbrev pub as-undone : Outcome → rules-undo.Undone
 as-undone r = record { number = r .number; state = as-state (r .state) }

@@ -14,14 +14,30 @@ ghost use Rattle.rules.specs.State.{zeros};
 ghost use Rattle.rules.specs.Start.{started, start-records};
 ghost use Rattle.run.specs.View.{as-state};
 ghost use Rattle.run.specs.Promises.{StartPromise};
-use crate::Started;
+use crate::Outcome;
 use crate::State;
 use record::ListRecord;
 use record::Record;
 
+impl State {
+    // All zeros.
+    pub fn zeros() -> State
+        ensures { λ r. ⌜ as-state r ≡ zeros ⌝ }
+    {
+        State {
+            vars: [0u32; 32],
+            positions: [0u16; 8],
+            priorities: [0i16; 8],
+            n: 0,
+            b: 0,
+            m: 0,
+        }
+    }
+}
+
 // The start of a run, with a reset for each station and b the largest reset from then on. It writes a start record for each station to the
 // log; a refusal answers a state of zeros and writes nothing.
-pub fn start(list: &[u8], b: u8, resets: &[u8], log: &mut [u8]) -> Started
+pub fn start(list: &[u8], b: u8, resets: &[u8], log: &mut [u8]) -> Outcome
     ensures { λ r. ⌜ StartPromise (now (list .entry)) b (now (resets .entry)) (now (log .entry)) r (now (log .exit)) ⌝ }
 {
     if !list::sound(list) {
@@ -38,26 +54,19 @@ pub fn start(list: &[u8], b: u8, resets: &[u8], log: &mut [u8]) -> Started
         return refused(Record::ROOM);
     }
     write_starts(log, resets);
-    Started {
+    Outcome {
         number: 0,
         state: begun(list, b, log),
     }
 }
 
 // A start's refusal.
-fn refused(number: u8) -> Started
+fn refused(number: u8) -> Outcome
     ensures { λ r. ⌜ (r .number ≡ number) × (as-state (r .state) ≡ zeros) ⌝ }
 {
-    Started {
+    Outcome {
         number,
-        state: State {
-            vars: [0u32; 32],
-            positions: [0u16; 8],
-            priorities: [0i16; 8],
-            n: 0,
-            b: 0,
-            m: 0,
-        },
+        state: State::zeros(),
     }
 }
 

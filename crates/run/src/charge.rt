@@ -4,14 +4,12 @@ ghost use mathlib.Core.Bool.{false};
 ghost use Prim.Native.Nat.{ℕ, _≤_, _<_};
 ghost use mir.Syntax.{w16};
 ghost use mir.Val.{SFits};
-ghost use lib.Dec.{eqb};
 ghost use lib.ListN.{getD};
 ghost use lib.IntN.{pos, negℤ, _-ℤ_};
 ghost use lib.Signed.{leZ};
-ghost use Rattle.rules.specs.Words.{changed};
 ghost use Rattle.rules.specs.Names.{max-stations};
-ghost use Rattle.rules.specs.Step.{charged};
-ghost use Rattle.stations.specs.Parts.{priority-in};
+ghost use Rattle.rules.specs.Turn.{charged, charge-of};
+ghost use Rattle.rules.specs.State.{priority-in};
 
 // One station's priority after a step: the reset if it was picked, one less if it was ready, else the same.
 fn charged_one(p: i16, picked: bool, ready: bool, reset: u8) -> i16
@@ -37,7 +35,7 @@ pub(crate) fn charged(
     reset: u8,
 ) -> [i16; 8]
     requires { ⌜ (n ≤ max-stations) × ((j : ℕ) → j < n → leZ (priority-in priorities j) (negℤ (pos n)) ≡ false) ⌝ }
-    ensures { λ r. ⌜ r ≡ changed (λ j. charged (eqb j picked) (getD all j false) reset) n priorities ⌝ }
+    ensures { λ r. ⌜ r ≡ charge-of n (λ j. getD all j false) (record { station = picked; reset = reset }) priorities ⌝ }
 {
     let mut j: usize = 0;
     while j < n {

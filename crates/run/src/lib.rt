@@ -2,7 +2,6 @@
 
 mod begin;
 mod charge;
-mod ready;
 mod run;
 mod sound;
 mod step;
@@ -25,16 +24,9 @@ pub struct State {
     pub m: u16,
 }
 
-// What a start answers: 0 and the state with no steps, or a refusal's number and a state of zeros.
+// What a start, a step and an undo answer: 0 and the state reached, or a refusal's number and the state given, which is zeros for a start.
 #[repr(C)]
-pub struct Started {
-    pub number: u8,
-    pub state: State,
-}
-
-// What a step answers: 0 and the state after it, or a refusal's number and the state given.
-#[repr(C)]
-pub struct Stepped {
+pub struct Outcome {
     pub number: u8,
     pub state: State,
 }
@@ -45,11 +37,4 @@ pub struct Ran {
     pub number: u8,
     pub state: State,
     pub steps: usize,
-}
-
-// What an undo answers: 0 and the state before the last step, or a refusal's number and the state given.
-#[repr(C)]
-pub struct Undone {
-    pub number: u8,
-    pub state: State,
 }

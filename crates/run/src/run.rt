@@ -1,11 +1,9 @@
 // RUN: single steps until the first refusal, the end of the picks or the most-steps number.
 ghost use mathlib.Core.Path.{_≡_};
-ghost use mathlib.Core.Bool.{true};
 ghost use Prim.Native.Nat.{_*_, _≤_, min};
 ghost use lib.ListN.{length};
-ghost use Rattle.rules.specs.List.{sound-list};
-ghost use Rattle.rules.specs.State.{sound-state};
 ghost use Rattle.rules.specs.Run.{steps-from};
+ghost use Rattle.laws.specs.Passed.{Known};
 ghost use Rattle.run.specs.View.{as-state, as-ran};
 ghost use Rattle.run.specs.Promises.{RunPromise};
 use crate::Ran;
@@ -54,7 +52,7 @@ impl State {
 
     // So many steps, by the first of the picks, on a list and a state that are sound.
     fn steps(self, list: &[u8], log: &mut [u8], picks: &[u8], count: usize) -> Ran
-        requires { ⌜ (sound-list (now list) ≡ true) × (sound-state (now list) (as-state self) ≡ true) × (2 * count ≤ length (now picks)) ⌝ }
+        requires { ⌜ Known (now list) (as-state self) × (2 * count ≤ length (now picks)) ⌝ }
         ensures { λ r. ⌜ as-ran r (now (log .exit)) ≡ steps-from (now (list .entry)) (now (picks .entry)) 0 count (as-state self) (now (log .entry)) ⌝ }
     {
         let mut state = self;

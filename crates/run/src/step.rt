@@ -1,53 +1,34 @@
 // One step: the tests of a pick, the state after it, and its record in the log.
 ghost use mathlib.Core.Path.{_≡_};
 ghost use Prim.Native.Nat.{_<_};
-ghost use mathlib.Core.Bool.{true, not};
-ghost use mathlib.Core.List.{[], _∷_};
-ghost use Rattle.rules.specs.Words.{values, _refuses_at_, refusal};
-ghost use Rattle.rules.specs.Names.{NOT-READY, TURN, RESET, max-stations};
-ghost use Rattle.rules.specs.List.{sound-list};
-ghost use Rattle.rules.specs.State.{sound-state};
-ghost use Rattle.rules.specs.Ready.{ready};
-ghost use Rattle.rules.specs.Step.{stepped};
-ghost use Rattle.run.specs.Picked.{Going, picked};
+ghost use Rattle.rules.specs.Words.{values};
+ghost use Rattle.rules.specs.Names.{max-stations, max-steps};
+ghost use Rattle.rules.specs.Ready.{next-step, ready};
+ghost use Rattle.rules.specs.Step.{stepped, picked};
+ghost use Rattle.laws.specs.Passed.{Known};
+ghost use Rattle.record.specs.View.{as-list-record};
 ghost use Rattle.run.specs.View.{as-state, as-picked};
 ghost use Rattle.run.specs.Promises.{StepPromise};
 use crate::MAX_STEPS;
+use crate::Outcome;
 use crate::State;
-use crate::Stepped;
 use crate::charge::charged;
+use record::ListRecord;
 use record::Record;
-
-// What refuses the pick of a station of the list, of tests 11 to 13 in their order: it is not ready, it is not lowest, the reset is above
-// b. 0 where nothing does.
-fn pick_refusal(ready: bool, lowest: bool, above: bool) -> u8
-    ensures { λ r. ⌜ r ≡ refusal ((not ready refuses NOT-READY at 0) ∷ (not lowest refuses TURN at 0) ∷ (above refuses RESET at 0) ∷ []) ⌝ }
-{
-    if !ready {
-        return Record::NOT_READY;
-    }
-    if !lowest {
-        return Record::TURN;
-    }
-    if above {
-        return Record::RESET;
-    }
-    0
-}
 
 impl State {
     // One step, by the pick of a station and its reset. A step taken writes its record to the log; a refusal writes nothing.
-    pub fn step(self, list: &[u8], log: &mut [u8], station: u8, reset: u8) -> Stepped
+    pub fn step(self, list: &[u8], log: &mut [u8], station: u8, reset: u8) -> Outcome
         ensures { λ r. ⌜ StepPromise (now (list .entry)) (as-state self) (now (log .entry)) (record { station = station; reset = reset }) r (now (log .exit)) ⌝ }
     {
         if !list::sound(list) {
-            return Stepped {
+            return Outcome {
                 number: Record::LIST,
                 state: self,
             };
         }
         if !self.sound(list) {
-            return Stepped {
+            return Outcome {
                 number: Record::STATE,
                 state: self,
             };
@@ -56,19 +37,19 @@ impl State {
     }
 
     // One step, on a list and a state that are sound.
-    pub(crate) fn advance(self, list: &[u8], log: &mut [u8], station: u8, reset: u8) -> Stepped
-        requires { ⌜ (sound-list (now list) ≡ true) × (sound-state (now list) (as-state self) ≡ true) ⌝ }
+    pub(crate) fn advance(self, list: &[u8], log: &mut [u8], station: u8, reset: u8) -> Outcome
+        requires { ⌜ Known (now list) (as-state self) ⌝ }
         ensures { λ r. ⌜ StepPromise (now (list .entry)) (as-state self) (now (log .entry)) (record { station = station; reset = reset }) r (now (log .exit)) ⌝ }
     {
         if self.m == MAX_STEPS {
-            return Stepped {
+            return Outcome {
                 number: Record::FULL,
                 state: self,
             };
         }
         let at = 2 * (self.n as usize + self.m as usize);
         if log.len() < at + 2 {
-            return Stepped {
+            return Outcome {
                 number: Record::ROOM,
                 state: self,
             };
@@ -84,12 +65,12 @@ impl State {
 
     // One pick, on a list and a state that are sound, with a step left: 0 and the state after the step, or the refusal of tests 10 to 13
     // and the state given.
-    pub(crate) fn pick(self, list: &[u8], station: u8, reset: u8) -> Stepped
-        requires { ⌜ Going (now list) (as-state self) ⌝ }
+    pub(crate) fn pick(self, list: &[u8], station: u8, reset: u8) -> Outcome
+        requires { ⌜ Known (now list) (as-state self) × (self .m < max-steps) ⌝ }
         ensures { λ r. ⌜ as-picked r ≡ picked (now (list .entry)) (as-state self) (record { station = station; reset = reset }) ⌝ }
     {
         if self.n <= station {
-            return Stepped {
+            return Outcome {
                 number: Record::COMPONENT,
                 state: self,
             };
@@ -99,22 +80,30 @@ impl State {
         let priorities = self.priorities;
         let all = stations::readiness(list, &self.vars, positions);
         let lowest = stations::lowest_of(all, priorities, self.n as usize, at);
-        let number = pick_refusal(all[at], lowest, self.b < reset);
+        let number = stations::pick_refusal(all[at], lowest, self.b < reset);
         if number != 0 {
-            return Stepped {
+            return Outcome {
                 number,
                 state: self,
             };
         }
-        Stepped {
+        Outcome {
             number: 0,
             state: self.stepped(list, all, station, reset),
         }
     }
 
+    // The record of station j's next step.
+    fn next_step(self, list: &[u8], j: usize) -> ListRecord
+        ensures { λ r. ⌜ as-list-record r ≡ next-step (now (list .entry)) (as-state self) j ⌝ }
+    {
+        let positions = self.positions;
+        ListRecord::at(list, stations::position(positions, j))
+    }
+
     // The state after the step of a pick, where the readiness of the stations 0 to 7 before it is known.
     fn stepped(self, list: &[u8], all: [bool; 8], station: u8, reset: u8) -> State
-        requires { ⌜ Going (now list) (as-state self) × (all ≡ values (ready (now list) (as-state self)) max-stations) × (station < self .n) ⌝ }
+        requires { ⌜ Known (now list) (as-state self) × (self .m < max-steps) × (all ≡ values (ready (now list) (as-state self)) max-stations) × (station < self .n) ⌝ }
         ensures { λ r. ⌜ as-state r ≡ stepped (now (list .entry)) (as-state self) (record { station = station; reset = reset }) ⌝ }
     {
         let at = station as usize;

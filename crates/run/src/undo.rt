@@ -7,14 +7,12 @@ ghost use lib.ListN.{length};
 ghost use Rattle.rules.specs.Words.{each, refusal};
 ghost use Rattle.rules.specs.Names.{max-steps};
 ghost use Rattle.rules.specs.Records.{pick-at};
-ghost use Rattle.rules.specs.List.{sound-list};
-ghost use Rattle.rules.specs.State.{sound-state};
-ghost use Rattle.rules.specs.Undo.{replay};
-ghost use Rattle.run.specs.Picked.{before-replay};
+ghost use Rattle.rules.specs.Undo.{replay, before-replay};
+ghost use Rattle.laws.specs.Passed.{Known};
 ghost use Rattle.run.specs.View.{as-state, as-undone};
 ghost use Rattle.run.specs.Promises.{UndoPromise};
+use crate::Outcome;
 use crate::State;
-use crate::Undone;
 use crate::begin;
 use record::Record;
 
@@ -39,12 +37,12 @@ fn starts_right(log: &[u8], n: usize, b: u8) -> bool
 
 impl State {
     // The state before the last step, made anew from the log. The log stays.
-    pub fn undo(self, list: &[u8], log: &[u8]) -> Undone
+    pub fn undo(self, list: &[u8], log: &[u8]) -> Outcome
         ensures { λ r. ⌜ UndoPromise (now (list .entry)) (as-state self) (now (log .entry)) r ⌝ }
     {
         let number = self.undo_refusal(list, log);
         if number != 0 {
-            return Undone {
+            return Outcome {
                 number,
                 state: self,
             };
@@ -53,7 +51,7 @@ impl State {
         let m = self.m as usize;
         let back = begin::begun(list, self.b, log).replay(list, log, n, m - 1);
         if back.number != 0 {
-            return Undone {
+            return Outcome {
                 number: Record::LOG,
                 state: self,
             };
@@ -86,8 +84,8 @@ impl State {
 
     // So many steps of a log, from record i on, replayed on a list and a state that are sound: 0 and the state reached, or the refusal of
     // the first that is refused and the state before it.
-    fn replay(self, list: &[u8], log: &[u8], mut i: usize, count: usize) -> Undone
-        requires { ⌜ (sound-list (now list) ≡ true) × (sound-state (now list) (as-state self) ≡ true) × (self .m + count ≤ max-steps) × (2 * (i + count) ≤ length (now log)) ⌝ }
+    fn replay(self, list: &[u8], log: &[u8], mut i: usize, count: usize) -> Outcome
+        requires { ⌜ Known (now list) (as-state self) × (self .m + count ≤ max-steps) × (2 * (i + count) ≤ length (now log)) ⌝ }
         ensures { λ r. ⌜ as-undone r ≡ replay (now (list .entry)) (now (log .entry)) i count (as-state self) ⌝ }
     {
         let mut state = self;
@@ -97,7 +95,7 @@ impl State {
             let taken = state.pick(list, log[at], log[at + 1]);
             state = taken.state;
             if taken.number != 0 {
-                return Undone {
+                return Outcome {
                     number: taken.number,
                     state,
                 };
@@ -105,6 +103,6 @@ impl State {
             i += 1;
             left -= 1;
         }
-        Undone { number: 0, state }
+        Outcome { number: 0, state }
     }
 }

@@ -7,7 +7,7 @@ use lib.Dec.{leb}
 use lib.IntN.{ℤ, pos, negℤ}
 use lib.Signed.{leZ}
 use Rattle.rules.specs.Words.{tally}
-use Rattle.stations.specs.Parts.{priority-in, few-low-in}
+use Rattle.rules.specs.State.{priority-in, few-low-in}
 
 -- the rule on k, at the count of those that are -k or lower
 pub few-low-counted :

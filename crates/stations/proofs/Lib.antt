@@ -1,3 +1,3 @@
 pub mod Signed
-pub mod Filled
 pub mod Clauses
+pub mod Known

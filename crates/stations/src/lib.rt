@@ -1,13 +1,14 @@
 // What is asked of the stations of a state, of its parts alone: a state is copied whole wherever it is passed, and a part of it is small.
 // `ready` has readiness and the pick order, `sound` the clauses of a sound state.
 ghost use mathlib.Core.Path.{_≡_};
-ghost use Rattle.stations.specs.Parts.{position-in, priority-in};
+ghost use Rattle.rules.specs.State.{position-in, priority-in};
 
 mod ready;
 mod sound;
 
 pub use ready::ended_at;
 pub use ready::lowest_of;
+pub use ready::pick_refusal;
 pub use ready::readiness;
 pub use ready::ready_at;
 pub use ready::ready_in;

@@ -1,12 +1,15 @@
 // Readiness and pick order, of the record of a station's next step, the variables, the positions and the priorities.
 ghost use mathlib.Core.Path.{_≡_};
-ghost use mathlib.Core.Bool.{false};
+ghost use mathlib.Core.Bool.{false, not};
+ghost use mathlib.Core.List.{[], _∷_};
 ghost use lib.ListN.{getD};
-ghost use Rattle.rules.specs.Words.{values, each};
-ghost use Rattle.rules.specs.Names.{max-stations};
+ghost use Rattle.rules.specs.Words.{values, _refuses_at_, refusal};
+ghost use Rattle.rules.specs.Names.{NOT-READY, TURN, RESET, max-stations};
 ghost use Rattle.rules.specs.Records.{list-record-at};
 ghost use Rattle.record.specs.View.{as-list-record};
-ghost use Rattle.stations.specs.Parts.{position-in, priority-in, ended-at, waiting-at, ready-at, yields-to};
+ghost use Rattle.rules.specs.State.{position-in, priority-in};
+ghost use Rattle.rules.specs.Ready.{ended-at, waiting-at, ready-at};
+ghost use Rattle.rules.specs.Turn.{yields-to, lowest-of};
 use crate::MAX_STATIONS;
 use crate::priority;
 use record::ListRecord;
@@ -54,7 +57,7 @@ pub fn readiness(list: &[u8], vars: &[u32; 32], positions: [u16; 8]) -> [bool; 8
 
 // Whether none of n stations is ready and has a lower priority than station i.
 pub fn lowest_of(all: [bool; 8], priorities: [i16; 8], n: usize, i: usize) -> bool
-    ensures { λ r. ⌜ r ≡ each (λ j. yields-to (getD all j false) (priority-in priorities i) (priority-in priorities j)) n ⌝ }
+    ensures { λ r. ⌜ r ≡ lowest-of n (λ j. getD all j false) (priority-in priorities) i ⌝ }
 {
     let mut j: usize = 0;
     while j < n {
@@ -74,6 +77,23 @@ pub fn yields(ready: bool, priorities: [i16; 8], i: usize, j: usize) -> bool
         return priority(priorities, i) <= priority(priorities, j);
     }
     true
+}
+
+// What refuses the pick of a station of the list, of tests 11 to 13 in their order: it is not ready, it is not lowest, the reset is above
+// b. 0 where nothing does.
+pub fn pick_refusal(ready: bool, lowest: bool, above: bool) -> u8
+    ensures { λ r. ⌜ r ≡ refusal ((not ready refuses NOT-READY at 0) ∷ (not lowest refuses TURN at 0) ∷ (above refuses RESET at 0) ∷ []) ⌝ }
+{
+    if !ready {
+        return Record::NOT_READY;
+    }
+    if !lowest {
+        return Record::TURN;
+    }
+    if above {
+        return Record::RESET;
+    }
+    0
 }
 
 // Whether station j is ready, where that is known of the stations 0 to 7; a station past those is not.

@@ -6,7 +6,7 @@ ghost use lib.Signed.{leZ};
 ghost use Rattle.rules.specs.Words.{each, tally};
 ghost use Rattle.rules.specs.Names.{max-stations};
 ghost use Rattle.list.specs.Given.{is-at-from};
-ghost use Rattle.stations.specs.Parts.{position-in, priority-in, few-low-in, empty-in};
+ghost use Rattle.rules.specs.State.{position-in, priority-in, few-low-in, empty-in};
 use crate::MAX_STATIONS;
 use crate::position;
 use crate::priority;
@@ -104,6 +104,5 @@ pub fn empty(positions: [u16; 8], priorities: [i16; 8], n: u8) -> bool
 fn empty_at(positions: [u16; 8], priorities: [i16; 8], j: usize) -> bool
     ensures { λ r. ⌜ r ≡ empty-in positions priorities j ⌝ }
 {
-    let p = priority(priorities, j);
-    (position(positions, j) == 0) & (p <= 0) & (0 <= p)
+    (position(positions, j) == 0) & (priority(priorities, j) == 0)
 }

@@ -10,7 +10,7 @@ use Rattle.rules.specs.List.{sound-list}
 use Rattle.rules.specs.State.{State}
 use Rattle.rules.specs.Ready.{next-step}
 use Rattle.rules.specs.Lights.{body, touches}
-use Rattle.lit.proofs.Inside.{short}
+use Rattle.laws.proofs.Sound.{short}
 use Rattle.touches.specs.Touched.{body-within, touched}
 
 -- a list that is not too long is searched to its end

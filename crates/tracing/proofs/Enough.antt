@@ -17,7 +17,7 @@ use Rattle.rules.specs.Build.{Built, build}
 use Rattle.rules.specs.Start.{start}
 use Rattle.rules.specs.Trace.{end-line, line, wrong-picks, run-text, start-text, trace}
 use Rattle.laws.proofs.Choice.{by-test}
-use Rattle.fair.proofs.Meaning.{sound-list-means}
+use Rattle.laws.proofs.Sound.{few-stations}
 use Rattle.tracing.specs.Claims.{enough, enough-starts, Enough}
 
 -- what decides the same of a file of at most so many bytes, and of any that is longer, decides the same of its first so many
@@ -50,7 +50,7 @@ unfolding start judge
 start-long list b resets log long =
     by-test (sound-list list)
     (λ yes.
-    let few = sound-list-means list yes .few-stations in
+    let few = few-stations list yes in
     rw (yes, ne-eqb (length resets) (stations list) (λ e. omega arith)))
     (λ no. rw no)
 

@@ -50,14 +50,7 @@ fn ending(number: u8) -> Tracer
     ensures { λ r. ⌜ as-tracing r ≡ ending number ⌝ }
 {
     Tracer {
-        state: State {
-            vars: [0u32; 32],
-            positions: [0u16; 8],
-            priorities: [0i16; 8],
-            n: 0,
-            b: 0,
-            m: 0,
-        },
+        state: State::zeros(),
         count: 0,
         next: Next::End(number),
     }

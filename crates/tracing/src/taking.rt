@@ -2,8 +2,8 @@
 ghost use mathlib.Core.Path.{_≡_};
 ghost use Rattle.rules.specs.Trace.{taken-pick, wrong-picks};
 ghost use Rattle.run.specs.View.{as-state, as-stepped};
+use run::Outcome;
 use run::State;
-use run::Stepped;
 
 // Bytes of a picks file, at most.
 const MAX_PICKS: usize = 8192;
@@ -22,17 +22,12 @@ pub(crate) fn wrong(picks: &[u8]) -> bool
 }
 
 // One pick: (255, 0) takes the last step back, any other is a step.
-pub(crate) fn taken(state: State, list: &[u8], log: &mut [u8], station: u8, reset: u8) -> Stepped
+pub(crate) fn taken(state: State, list: &[u8], log: &mut [u8], station: u8, reset: u8) -> Outcome
     ensures { λ r. ⌜ as-stepped r (now (log .exit)) ≡ taken-pick (now (list .entry)) (as-state state) (now (log .entry)) (record { station = station; reset = reset }) ⌝ }
 {
     if station == UNDO {
         if reset == 0 {
-            let back = state.undo(list, log);
-            let before = back.state;
-            return Stepped {
-                number: back.number,
-                state: before,
-            };
+            return state.undo(list, log);
         }
     }
     state.step(list, log, station, reset)

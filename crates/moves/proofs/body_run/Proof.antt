@@ -5,7 +5,7 @@ use mathlib.Core.Path.{_≡_, refl, sym, _∙_}
 use Prim.Native.Nat.{_-_, _^_, _<_}
 use native.Mathlib.Omega.{arith}
 use Rattle.rules.specs.Records.{list-count}
-use Rattle.rules.specs.Step.{body-run}
+use Rattle.rules.specs.Move.{body-run}
 use Rattle.moves.proofs.Turns.{body-leaves, body-turn}
 use borrow.Author.Needs.{needs}
 use Rattle.moves.proofs.body_run.Statement.{statement}

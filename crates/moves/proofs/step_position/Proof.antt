@@ -2,7 +2,7 @@
 -- Assumes nothing.
 use borrow.Author.Tests.{ne-eqb}
 use Rattle.rules.specs.Names.{AWAIT}
-use Rattle.rules.specs.Step.{step-position}
+use Rattle.rules.specs.Move.{step-position}
 use borrow.Author.Needs.{needs}
 use Rattle.moves.proofs.step_position.Statement.{statement}
 use Rattle.moves.proofs.step_position.Tie as tie

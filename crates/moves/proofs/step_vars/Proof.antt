@@ -2,7 +2,7 @@
 -- Assumes nothing.
 use borrow.Author.Tests.{eq-eqb, ne-eqb}
 use Rattle.rules.specs.Names.{AWAIT}
-use Rattle.rules.specs.Step.{step-vars}
+use Rattle.rules.specs.Move.{step-vars}
 use borrow.Author.Needs.{needs}
 use Rattle.moves.proofs.step_vars.Statement.{statement}
 use Rattle.moves.proofs.step_vars.Tie as tie

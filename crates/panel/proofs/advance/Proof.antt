@@ -44,13 +44,13 @@ use denote.Triple.Walked.{says, Stays, stay-ref, stay-dropped, gave-slice, walkO
 use denote.Exit.{yes}
 use Rattle.rules.specs.Records.{Pick}
 use Rattle.run.specs.declared.State.{State}
-use Rattle.run.specs.declared.Stepped.{Stepped}
+use Rattle.run.specs.declared.Outcome.{Outcome}
 use Rattle.run.specs.View.{as-state}
 use Rattle.run.specs.Promises.{StepPromise}
 use Rattle.run.proofs.State as T
 use Rattle.run.proofs.State.Laws as T′
-use Rattle.run.proofs.Stepped as S
-use Rattle.run.proofs.Stepped.Laws as S′
+use Rattle.run.proofs.Outcome as S
+use Rattle.run.proofs.Outcome.Laws as S′
 use Rattle.run.proofs.State.step as step
 use Rattle.run.proofs.State.step.Symbol as step-def
 use Rattle.run.proofs.State.step.Symbol.{name as #step}
@@ -74,10 +74,10 @@ abbrev vals : State → List Val
 vals = LL.vals T.the-type T′.the-laws
 
 -- of an answer, what is known of its state and of its number
-state-is : (r : Stepped) (vs : List Val) → Is S.the-row r vs → Is T.the-row (r .state) (vals (r .state))
+state-is : (r : Outcome) (vs : List Val) → Is S.the-row r vs → Is T.the-row (r .state) (vals (r .state))
 state-is r vs is = LL.owed S.the-type S′.the-laws r vs is .1 .0
 
-number-fits : (r : Stepped) (vs : List Val) → Is S.the-row r vs → r .number < 2 ^ 8
+number-fits : (r : Outcome) (vs : List Val) → Is S.the-row r vs → r .number < 2 ^ 8
 number-fits r vs is = LL.owed S.the-type S′.the-laws r vs is .0 .1
 
 module _ {M : Type 1} (𝓤 : URA M) (H : Heap 𝓤) (A : Atoms 𝓤) (W : Given 𝓤 H A) (at-mem : Memory → SProp 𝓤) (run : Routine → Fun 𝓤) (κ κₗ κₘ : Lft) (q qₗ qₘ : Share) (b o : ℕ) (γ : GName) (given : State) (list log : RefT (List ℕ)) (station reset : ℕ) (station-fits : station < 2 ^ 8) (reset-fits : reset < 2 ^ 8) where
@@ -113,11 +113,11 @@ module _ {M : Type 1} (𝓤 : URA M) (H : Heap 𝓤) (A : Atoms 𝓤) (W : Given
   p = record { station = station; reset = reset }
 
   -- what `step` says
-  abbrev Said : Stepped → List ℕ → Type 0
+  abbrev Said : Outcome → List ℕ → Type 0
   Said r after = StepPromise (list .now) (as-state given) (log .now) p r after
 
   -- the function ends with a state left behind the reference
-  exits : (r : Stepped) (left : State) (after : List ℕ) → AdvancePromise (list .now) (as-state given) (log .now) p (r .number) left after → length after ≡ length (log .now)
+  exits : (r : Outcome) (left : State) (after : List ℕ) → AdvancePromise (list .now) (as-state given) (log .now) p (r .number) left after → length after ≡ length (log .now)
       → r .number < 2 ^ 8
       → ent 𝓤 (⋆ 𝓤 H A (‵ (fobs γ (T.the-row .coded .code left)) ∷ ‵ (fbor κ (Body (mem T.the-row) b o γ)) ∷ ‵ (flft κ q) ∷ toks ∷ ‵ (finally u8 (log .name) after) ∷ [])) (Post (vint w8 (r .number)))
   exits r left after e l fits =
@@ -149,7 +149,7 @@ module _ {M : Type 1} (𝓤 : URA M) (H : Heap 𝓤) (A : Atoms 𝓤) (W : Given
         -- [what `step` asks; the state's cell; the open borrow; obs; auth; _10; …]
         calls-at ! fm (Step 𝓤 H A at-mem run) known to (and-then ! (load ! (from ! (stop !)) (look ! 11 refl)) (and-then ! (load ! (from ! (stop !)) (look ! 21 refl)) (and-then ! (load ! (from ! (stop !)) (look ! 7 refl))
         (and-then ! (load ! (from ! (stop !)) (look ! 17 refl)) (and-then ! (load ! (from ! (stop !)) (look ! 15 refl)) (no-more !)))))) (λ w.
-        use1 W (later (some (λ (r : Stepped). (toks ⊛ ‵ (S.the-row .own r (w ∷ []))) ⊛ raw (ensured 𝓤 H A step.ended (step.clauses 𝓤 H A at-mem run) (κₗ, (κₘ, tt)) (given, a .1) tt r)))) (id⊢ 𝓤 _) $ await ! tt $ pick ! (λ r.
+        use1 W (later (some (λ (r : Outcome). (toks ⊛ ‵ (S.the-row .own r (w ∷ []))) ⊛ raw (ensured 𝓤 H A step.ended (step.clauses 𝓤 H A at-mem run) (κₗ, (κₘ, tt)) (given, a .1) tt r)))) (id⊢ 𝓤 _) $ await ! tt $ pick ! (λ r.
         split ! $ move ! (1 ∷ []) $ use1 W (some (λ (ends : Unit {0} × (Unit {0} × (List ℕ × (Unit {0} × (Unit {0} × Unit {0}))))). ‵ (lasts step.ended (κₗ, (κₘ, tt)) (given, a .1) ends) ⊛ raw (fact 𝓤 (Said r (ends .1 .1 .0))))) (id⊢ 𝓤 _) $ pick ! (λ ends.
         split ! $ move ! (1 ∷ []) $ heard ! (Said r (ends .1 .1 .0)) (λ e. fsplit ! $ drop ! $ fsplit ! $ drop ! $ fsplit ! $ fsplit ! $ move ! (1 ∷ []) $ feqL ! (λ l.
         -- [the last log; true; the tokens and the answer; the state's cell; the open borrow; obs; auth; _10; …]

@@ -8,7 +8,7 @@ use native.Mathlib.Omega.{arith}
 use borrow.Author.Needs.{needs}
 use lib.ListN.{getD}
 use Rattle.rules.specs.Names.{variables}
-use Rattle.stations.proofs.Filled.{filled, filled-none, filled-more, filled-all}
+use Rattle.laws.proofs.Filled.{filled, filled-none, filled-more, filled-all}
 use Rattle.lights.specs.Masks.{with-bit}
 use Rattle.lights.proofs.masks.with_bits.Statement.{statement}
 use Rattle.lights.proofs.masks.with_bits.Tie as tie

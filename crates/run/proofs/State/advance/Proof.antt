@@ -8,9 +8,10 @@ use borrow.Author.Tests.{eq-eqb, ne-eqb, lt-ltb}
 use Rattle.rules.specs.Words.{if_then_else_, written, judge}
 use Rattle.rules.specs.Records.{Pick, pick-bytes}
 use Rattle.rules.specs.Step as rules
-use Rattle.run.specs.Picked.{picked, Going}
+use Rattle.laws.specs.Passed.{CanStep}
+use Rattle.laws.proofs.Answers.{step-picked}
 use Rattle.run.specs.View.{as-state}
-use Rattle.run.proofs.Picks.{few-steps, step-picked}
+use Rattle.run.proofs.Picks.{few-steps}
 use Rattle.run.proofs.Written.{written-record}
 use Rattle.run.proofs.State.advance.Statement.{statement}
 use Rattle.run.proofs.State.advance.Tie as tie
@@ -22,7 +23,7 @@ returns : tie.Need-returns
 unfolding rules.step judge
 returns c =
     let pre = c .before .before .before .before .pre in
-    rw (pre .0, pre .1, eq-eqb _ _ (c .if1 .taken))
+    rw (pre .of-list, pre .of-state, eq-eqb _ _ (c .if1 .taken))
 
 cast-at : tie.Need-cast-at
 cast-at c = search needs
@@ -46,19 +47,24 @@ returns-2 c =
     let start = tested .before .before .before .before in
     let s = start .args .self in
     rw (
-      start .pre .0,
-      start .pre .1,
+      start .pre .of-list,
+      start .pre .of-state,
       ne-eqb _ _ (tested .if1 .left),
       lt-ltb (length (start .args .log .now)) (2 * (s .n + s .m + 1)) (omega arith),
     )
 
--- by the time that the pick is judged, the list and the state are sound, and a step is left
-going : (c : tie.Else2) → let start = c .before .before .before .before .before .before .before in
-    Going (start .args .list .now) (as-state (start .args .self))
-going c =
+-- by the time that the pick is judged, the list and the state are sound, a step is left, and the log has room
+can : (c : tie.Else2) → let a = c .before .before .before .before .before .before .before .args in
+    CanStep (a .list .now) (as-state (a .self)) (a .log .now)
+can c =
     let tested = c .before .before .before in
     let pre = tested .before .before .before .before .pre in
-    record { of-list = pre .0; of-state = pre .1; steps-left = omega (arith, few-steps _ _ (pre .1), tested .if1 .left) }
+    record {
+      of-list = pre .of-list;
+      of-state = pre .of-state;
+      steps-left = omega (arith, few-steps pre, tested .if1 .left);
+      room = omega (arith, c .if2 .left);
+    }
 
 -- and the step is its pick
 by-pick : (c : tie.Else2) → let a = c .before .before .before .before .before .before .before .args in
@@ -68,14 +74,14 @@ by-pick : (c : tie.Else2) → let a = c .before .before .before .before .before 
     let p : Pick = record { station = a .station; reset = a .reset } in
     rules.step list s log p
     ≡ record {
-      number = picked list s p .number;
-      state = picked list s p .state;
-      log = if eqb (picked list s p .number) 0 then written log (2 * (s .n + s .m)) (pick-bytes p) else log;
+      number = rules.picked list s p .number;
+      state = rules.picked list s p .state;
+      log = if eqb (rules.picked list s p .number) 0 then written log (2 * (s .n + s .m)) (pick-bytes p) else log;
     }
-by-pick c = step-picked _ _ _ _ (going c) (omega (arith, c .if2 .left))
+by-pick c = step-picked _ _ _ _ (can c)
 
 pick-requires : tie.Need-pick-requires
-pick-requires c κs = going c
+pick-requires c κs = (c .before .before .before .before .before .before .before .pre, can c .steps-left)
 
 returns-3 : tie.Need-returns-3
 returns-3 c =

@@ -7,11 +7,10 @@ use borrow.Author.Tests.{le-leb, eq-eqb, ne-eqb}
 use Rattle.rules.specs.Words.{values, judge, refusal}
 use Rattle.rules.specs.Names.{max-stations}
 use Rattle.rules.specs.Ready.{ready}
-use Rattle.rules.specs.Step.{pick-tests}
-use Rattle.run.specs.Picked.{picked}
+use Rattle.rules.specs.Step.{pick-tests, picked}
+use Rattle.laws.proofs.Sound.{at-most-eight}
 use Rattle.run.specs.View.{as-state}
-use Rattle.run.proofs.Known.{readied, pick-known}
-use Rattle.run.proofs.Picks.{few-stations}
+use Rattle.stations.proofs.Known.{readied, pick-known}
 use Rattle.run.proofs.State.pick.Statement.{statement}
 use Rattle.run.proofs.State.pick.Tie as tie
 
@@ -19,7 +18,7 @@ use Rattle.run.proofs.State.pick.Tie as tie
 few : (c : tie.After-readiness) → c .before .before .before .before .before .before .before .args .t1 .n ≤ max-stations
 few c =
     let start = c .before .before .before .before .before .before .before in
-    few-stations _ _ (start .pre .of-list) (start .pre .of-state)
+    at-most-eight (start .pre .0)
 
 -- the readiness is that of the stations before the step
 known : (c : tie.After-readiness) → let a = c .before .before .before .before .before .before .before .args in
@@ -65,7 +64,7 @@ stepped-requires : tie.Need-stepped-requires
 stepped-requires c κs =
     let readied = c .before .before .before in
     let station = readied .before .before .before .before .before in
-    (station .before .before .pre, known readied, station .if1 .left)
+    (station .before .before .pre .0, station .before .before .pre .1, known readied, station .if1 .left)
 
 returns-3 : tie.Need-returns-3
 unfolding picked

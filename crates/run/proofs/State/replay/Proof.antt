@@ -1,4 +1,4 @@
-use Prim.Native.Nat.{_+_, _*_, _≤_}
+use Prim.Native.Nat.{_+_, _*_, _≤_, _<_}
 use mathlib.Core.Path.{_≡_, refl, sym, ap, _∙_}
 use mathlib.Core.Bool.{true}
 use native.Mathlib.Omega.{arith}
@@ -8,9 +8,11 @@ use Rattle.rules.specs.Names.{max-steps}
 use Rattle.rules.specs.Records.{pick-at}
 use Rattle.rules.specs.State.{sound-state}
 use Rattle.rules.specs.Undo as rules
-use Rattle.run.specs.Picked.{Going, Picked}
+use Rattle.rules.specs.Step.{Picked}
+use Rattle.laws.specs.Passed.{Known}
+use Rattle.fair.proofs.Kept.{picked-sound}
+use Rattle.fair.proofs.Withdrawn.{picked-m}
 use Rattle.run.specs.View.{as-state}
-use Rattle.run.proofs.Picks.{picked-sound, picked-m}
 use Rattle.run.proofs.Replays.{replay-taken, replay-refused}
 use Rattle.run.proofs.State.replay.Statement.{statement}
 use Rattle.run.proofs.State.replay.Tie as tie
@@ -32,19 +34,17 @@ abbrev μ-loop : tie.MeasureT-loop
 loop-holds : tie.Need-loop-holds Inv-loop μ-loop
 loop-holds c =
     let pre = c .before .before .pre in
-    (pre .1, pre .2, pre .3, refl)
+    (pre .0 .of-state, pre .1, pre .2, refl)
 
 -- the state is sound, and has a step left
-going : (c : tie.After-shared-slice-known4 Inv-loop μ-loop) →
-    Going (c .before .before .before .before .before .before .args .list .now) (as-state (c .before .before .before .loop .state))
-going c =
+known : (c : tie.After-shared-slice-known4 Inv-loop μ-loop) →
+    Known (c .before .before .before .before .before .before .args .list .now) (as-state (c .before .before .before .loop .state))
+known c =
     let turn = c .before .before in
-    let inv = turn .before .loop .inv in
-    record {
-      of-list = turn .before .before .before .before .pre .0;
-      of-state = inv .0;
-      steps-left = omega (arith, inv .1, turn .loop-test .taken);
-    }
+    record { of-list = turn .before .before .before .before .pre .0 .of-list; of-state = turn .before .loop .inv .0 }
+
+left : (c : tie.After-shared-slice-known4 Inv-loop μ-loop) → c .before .before .before .loop .state .m < max-steps
+left c = let turn = c .before .before in omega (arith, turn .before .loop .inv .1, turn .loop-test .taken)
 
 mul-at : tie.Need-mul-at Inv-loop μ-loop
 mul-at c = search needs
@@ -59,7 +59,7 @@ shared-slice-read-pick-2 : tie.Need-shared-slice-read-pick-2 Inv-loop μ-loop
 shared-slice-read-pick-2 c = search needs
 
 pick-requires : tie.Need-pick-requires Inv-loop μ-loop
-pick-requires c κs = going c
+pick-requires c κs = (known c, left c)
 
 returns : tie.Need-returns Inv-loop μ-loop
 returns c =
@@ -90,7 +90,7 @@ loop-again c =
     let p = pick-at (a .log .now) (at .i) in
     let taken = sym (ap (λ (a : Picked). a .number) (done .pick .ensures)) ∙ c .if1 .left in
     let m = rw (← done .pick .ensures) at (picked-m (a .list .now) s p taken) in (
-      rw (← done .pick .ensures) at (picked-sound (a .list .now) s p (going (done .before))),
+      rw (← done .pick .ensures) at (picked-sound (a .list .now) s p (known (done .before)) (left (done .before))),
       omega (arith, at .inv .1),
       omega (arith, at .inv .2),
       at .inv .3 ∙ rw (← done .pick .ensures) at (replay-taken (a .list .now) (a .log .now) (at .i) s (at .left) (turn .loop-test .taken) taken),

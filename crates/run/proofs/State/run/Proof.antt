@@ -46,8 +46,10 @@ steps-requires c κs =
     let stated = c .before .before in
     let listed = stated .before .before in
     let a = listed .before .before .before .before .before .before .args in (
-      sym (listed .before .sound .ensures) ∙ not-false _ (listed .if2 .left),
-      sym (stated .before .sound2 .ensures) ∙ not-false _ (stated .if3 .left),
+      record {
+        of-list = sym (listed .before .sound .ensures) ∙ not-false _ (listed .if2 .left);
+        of-state = sym (stated .before .sound2 .ensures) ∙ not-false _ (stated .if3 .left);
+      },
       omega (arith, c .least .ensures, min-le-right (a .most) (length (a .picks .now) / 2)),
     )
 

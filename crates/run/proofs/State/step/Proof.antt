@@ -27,10 +27,11 @@ returns-2 c =
 advance-requires : tie.Need-advance-requires
 advance-requires c κs =
     let stated = c .before in
-    let listed = stated .before .before in (
-      sym (listed .before .sound .ensures) ∙ not-false _ (listed .if1 .left),
-      sym (stated .before .sound2 .ensures) ∙ not-false _ (stated .if2 .left),
-    )
+    let listed = stated .before .before in
+    record {
+      of-list = sym (listed .before .sound .ensures) ∙ not-false _ (listed .if1 .left);
+      of-state = sym (stated .before .sound2 .ensures) ∙ not-false _ (stated .if2 .left);
+    }
 
 same-length : tie.Need-same-length
 same-length c = search needs

@@ -3,8 +3,9 @@ use native.Mathlib.Omega.{arith}
 use borrow.Author.Needs.{needs}
 use Rattle.rules.specs.Step as rules
 use Rattle.run.specs.View.{as-state}
-use Rattle.run.proofs.Changes.{charge-known}
-use Rattle.run.proofs.Picks.{few-stations, above}
+use Rattle.laws.proofs.Sound.{at-most-eight}
+use Rattle.run.proofs.Charges.{charge-known}
+use Rattle.run.proofs.Picks.{above}
 use Rattle.run.proofs.State.stepped.Statement.{statement}
 use Rattle.run.proofs.State.stepped.Tie as tie
 
@@ -23,20 +24,20 @@ mul-positions c = search needs
 array-write-positions : tie.Need-array-write-positions
 array-write-positions c =
     let pre = c .before .before .before .before .before .before .before .before .pre in
-    omega (arith, pre .2, few-stations _ _ (pre .0 .of-list) (pre .0 .of-state))
+    omega (arith, pre .3, at-most-eight (pre .0))
 
 cast-charged : tie.Need-cast-charged
 cast-charged c = search needs
 
 charged-requires : tie.Need-charged-requires
 charged-requires c κs =
-    let going = c .before .before .before .before .before .before .before .before .before .pre .0 in
-    (few-stations _ _ (going .of-list) (going .of-state), above _ _ (going .of-state))
+    let known = c .before .before .before .before .before .before .before .before .before .pre .0 in
+    (at-most-eight known, above known)
 
 add-t25 : tie.Need-add-t25
 add-t25 c =
     let start = c .before .before .before .before .before .before .before .before .before .before in
-    omega (arith, start .pre .0 .steps-left)
+    omega (arith, start .pre .1)
 
 returns : tie.Need-returns
 unfolding rules.stepped
@@ -45,14 +46,12 @@ returns c =
     let moved = after .before .before in
     let start = moved .before .before .before .before .before in
     let a = start .args in
-    let going = start .pre .0 in
-    let few = few-stations _ _ (going .of-list) (going .of-state) in
     rw (
       c .charged .ensures,
       after .step-vars .ensures,
       moved .step-position .ensures,
       moved .before .before .before .next-step .ensures,
-      charge-known _ (as-state (a .t1)) (record { station = a .station; reset = a .reset }) (start .pre .1) few,
+      charge-known _ (as-state (a .t1)) (record { station = a .station; reset = a .reset }) (start .pre .2) (at-most-eight (start .pre .0)),
     )
 
 pub stepped-spec : {M : Type 1} → statement M

@@ -32,7 +32,7 @@ loop-holds : tie.Need-loop-holds Inv-loop μ-loop
 loop-holds c =
     let start = c .before .before .before in
     let all : start .args .count - 0 ≡ start .args .count = omega arith in
-    (search needs, refl, start .pre .1, rw all (counted-none _))
+    (search needs, refl, start .pre .0 .of-state, rw all (counted-none _))
 
 mul-at : tie.Need-mul-at Inv-loop μ-loop
 mul-at c = search needs
@@ -49,7 +49,7 @@ shared-slice-read-advance-2 c = search needs
 advance-requires : tie.Need-advance-requires Inv-loop μ-loop
 advance-requires c κs =
     let at = c .before .before .before .before in
-    (at .before .before .before .before .pre .0, at .loop .inv .2)
+    record { of-list = at .before .before .before .before .pre .0 .of-list; of-state = at .loop .inv .2 }
 
 same-length : tie.Need-same-length Inv-loop μ-loop
 same-length c = search needs

@@ -11,16 +11,20 @@ use Rattle.rules.specs.List.{stations}
 use Rattle.rules.specs.State.{State}
 use Rattle.rules.specs.Start.{started}
 use Rattle.rules.specs.Undo as rules
-use Rattle.fair.proofs.Meaning.{sound-means}
+use Rattle.laws.proofs.Sound.{sound-means}
 use Rattle.run.specs.View.{as-state, as-undone}
 use Rattle.run.proofs.Picks.{few-steps}
-use Rattle.run.proofs.Replays.{Replayable, begun-sound, replayed-counted, replayable, undo-refused, undo-replayed}
+use Rattle.laws.specs.Passed.{CanReplay}
+use Rattle.laws.proofs.Passed.{replay-passed}
+use Rattle.laws.proofs.Answers.{undo-refused-before, undo-replayed}
+use Rattle.fair.proofs.Withdrawn.{restarted-sound}
+use Rattle.run.proofs.Replays.{replayed-counted}
 use Rattle.run.proofs.State.undo.Statement.{statement}
 use Rattle.run.proofs.State.undo.Tie as tie
 
 -- where the first tests do not refuse
-passed : (c : tie.Else1) → let a = c .before .before .before .before .args in Replayable (a .list .now) (as-state (a .self)) (a .log .now)
-passed c = replayable _ _ _ (sym (c .before .undo-refusal .ensures) ∙ c .if1 .left)
+passed : (c : tie.Else1) → let a = c .before .before .before .before .args in CanReplay (a .list .now) (as-state (a .self)) (a .log .now)
+passed c = replay-passed _ _ _ .0 (sym (c .before .undo-refusal .ensures) ∙ c .if1 .left)
 
 counted : (c : tie.Else1) → let a = c .before .before .before .before .args in a .self .n ≡ stations (a .list .now)
 counted c = sound-means _ _ .0 (passed c .of-state) .of-list
@@ -41,7 +45,7 @@ undo-refusal-requires c κs = search needs
 returns : tie.Need-returns
 returns c =
     let number = c .before .undo-refusal .ensures in
-    rw (undo-refused _ _ _ (λ none. c .if1 .taken (number ∙ none)), number)
+    rw (undo-refused-before _ _ _ (λ none. c .if1 .taken (number ∙ none)), number)
 
 cast-n : tie.Need-cast-n
 cast-n c = search needs
@@ -63,9 +67,8 @@ replay-requires c κs =
     let tested = c .before .before .before in
     let r = passed tested in
     let m : c .begun .result .m ≡ 0 = ap (λ (s : State). s .m) (c .begun .ensures) in (
-      r .of-list,
-      rw (c .begun .ensures) (begun-sound _ _ _ (r .of-list) (r .starts)),
-      omega (arith, few-steps _ _ (r .of-state)),
+      record { of-list = r .of-list; of-state = rw (c .begun .ensures) (restarted-sound _ _ _ (r .of-list) (r .starts)) },
+      omega (arith, sound-means _ _ .0 (r .of-state) .few-steps),
       omega (arith, r .room, r .some-steps),
     )
 

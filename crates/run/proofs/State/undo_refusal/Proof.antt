@@ -9,9 +9,8 @@ use Rattle.rules.specs.Words.{if_then_else_, judge, refusal, _refuses_at_}
 use Rattle.rules.specs.Names.{LOG}
 use Rattle.rules.specs.List.{sound-list}
 use Rattle.rules.specs.State.{sound-state}
-use Rattle.rules.specs.Undo.{starts-right}
-use Rattle.fair.proofs.Meaning.{sound-means}
-use Rattle.run.specs.Picked.{before-replay}
+use Rattle.rules.specs.Undo.{starts-right, before-replay}
+use Rattle.laws.proofs.Sound.{sound-means}
 use Rattle.run.specs.View.{as-state}
 use Rattle.run.proofs.Replays.{starts-counted}
 use Rattle.run.proofs.State.undo_refusal.Statement.{statement}

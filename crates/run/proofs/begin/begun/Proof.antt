@@ -7,8 +7,8 @@ use borrow.Author.Needs.{needs}
 use Rattle.rules.specs.List.{initials}
 use Rattle.rules.specs.Start.{started}
 use Rattle.list.proofs.Given.{later-counted}
-use Rattle.fair.proofs.Meaning.{sound-list-means}
-use Rattle.stations.proofs.Filled.{map-values}
+use Rattle.laws.proofs.Sound.{few-stations}
+use Rattle.laws.proofs.Filled.{map-values}
 use Rattle.run.proofs.begin.begun.Statement.{statement}
 use Rattle.run.proofs.begin.begun.Tie as tie
 
@@ -28,20 +28,20 @@ initial-run-requires c κs = search needs
 first-steps-requires : tie.Need-first-steps-requires
 first-steps-requires c κs =
     let counted = c .before .before in
-    omega (arith, counted .stations .ensures, sound-list-means _ (counted .before .before .before .pre .0) .few-stations)
+    omega (arith, counted .stations .ensures, few-stations _ (counted .before .before .before .pre .0))
 
 first-priorities-requires : tie.Need-first-priorities-requires
 first-priorities-requires c κs =
     let counted = c .before .before .before in
     let pre = counted .before .before .before .pre in (
-      omega (arith, counted .stations .ensures, sound-list-means _ (pre .0) .few-stations),
+      omega (arith, counted .stations .ensures, few-stations _ (pre .0)),
       omega (arith, counted .stations .ensures, pre .1),
     )
 
 cast-t11 : tie.Need-cast-t11
 cast-t11 c =
     let counted = c .before .before .before .before in
-    omega (arith, counted .stations .ensures, sound-list-means _ (counted .before .before .before .pre .0) .few-stations)
+    omega (arith, counted .stations .ensures, few-stations _ (counted .before .before .before .pre .0))
 
 returns : tie.Need-returns
 unfolding started

@@ -10,7 +10,7 @@ use lib.IntN.{pos}
 use borrow.Author.Needs.{needs}
 use Rattle.rules.specs.Names.{max-stations}
 use Rattle.rules.specs.Records.{pick-at}
-use Rattle.stations.proofs.Filled.{filled, filled-none, filled-more}
+use Rattle.laws.proofs.Filled.{filled, filled-none, filled-more}
 use Rattle.run.proofs.begin.first_priorities.Statement.{statement}
 use Rattle.run.proofs.begin.first_priorities.Tie as tie
 

@@ -7,7 +7,7 @@ use native.Mathlib.Omega.{arith}
 use borrow.Author.Needs.{needs}
 use Rattle.rules.specs.Names.{max-stations}
 use Rattle.rules.specs.Records.{ListRecord, list-record-at}
-use Rattle.stations.proofs.Filled.{filled, filled-none, filled-more}
+use Rattle.laws.proofs.Filled.{filled, filled-none, filled-more}
 use Rattle.run.proofs.begin.first_steps.Statement.{statement}
 use Rattle.run.proofs.begin.first_steps.Tie as tie
 

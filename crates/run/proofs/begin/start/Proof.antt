@@ -8,7 +8,7 @@ use borrow.Author.Tests.{eq-eqb, ne-eqb, lt-ltb, le-ltb, not-true, not-false}
 use Rattle.rules.specs.Words.{judge}
 use Rattle.rules.specs.List.{stations, sound-list}
 use Rattle.rules.specs.Start as rules
-use Rattle.fair.proofs.Meaning.{sound-list-means}
+use Rattle.laws.proofs.Sound.{few-stations}
 use Rattle.run.proofs.Written.{resets-back}
 use Rattle.run.proofs.begin.start.Statement.{statement}
 use Rattle.run.proofs.begin.start.Tie as tie
@@ -101,7 +101,7 @@ write-starts-requires c κs =
     let roomy = c .before in
     let same = roomy .before .before .before in
     let n = counted same in (
-      omega (arith, sound-list-means _ (listed (same .before .before)) .few-stations),
+      omega (arith, few-stations _ (listed (same .before .before))),
       omega (arith, roomy .if4 .left, same .before .stations .ensures),
     )
 

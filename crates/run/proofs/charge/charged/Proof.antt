@@ -13,9 +13,9 @@ use lib.IntN.{ℤ, pos}
 use lib.ListN.{getD}
 use borrow.Author.Needs.{needs}
 use Rattle.rules.specs.Words.{changed}
-use Rattle.rules.specs.Step as rules
+use Rattle.rules.specs.Turn as rules
 use Rattle.run.proofs.Signed.{sfits-pred}
-use Rattle.run.proofs.Changes.{changed-next, changed-turn}
+use Rattle.laws.proofs.Changed.{changed-next, changed-turn}
 use Rattle.run.proofs.charge.charged.Statement.{statement}
 use Rattle.run.proofs.charge.charged.Tie as tie
 
@@ -67,7 +67,7 @@ loop-again c =
     let at = c .before .before .before in
     let p : ℤ = getD (at .loop .priorities) (at .loop .j) (pos 0) in (
       search needs,
-      changed-turn _ _ _ _ _ (at .loop .inv .1)
+      changed-turn _ _ _ _ _ (pos 0) (at .loop .inv .1)
           (toZ-ofZ w16 _ (record { sfits = c .charged-one .ok })
           ∙ rw (toZ-ofZ w16 p (record { sfits = c .before .p .given })) at (c .charged-one .ensures)),
     )

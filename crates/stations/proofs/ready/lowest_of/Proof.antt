@@ -10,7 +10,8 @@ use borrow.Author.Needs.{needs}
 use borrow.Author.Count.{below-none, below-more}
 use borrow.Author.Tests.{not-true, not-false}
 use Rattle.laws.proofs.Places.{each-all, each-not}
-use Rattle.stations.specs.Parts.{priority-in, yields-to}
+use Rattle.rules.specs.State.{priority-in}
+use Rattle.rules.specs.Turn.{yields-to}
 use Rattle.stations.proofs.ready.lowest_of.Statement.{statement}
 use Rattle.stations.proofs.ready.lowest_of.Tie as tie
 

@@ -7,8 +7,9 @@ use native.Mathlib.Omega.{arith}
 use borrow.Author.Needs.{needs}
 use Rattle.rules.specs.Names.{max-stations}
 use Rattle.rules.specs.Records.{list-record-at}
-use Rattle.stations.specs.Parts.{position-in, ready-at}
-use Rattle.stations.proofs.Filled.{filled, filled-none, filled-more, filled-all}
+use Rattle.rules.specs.State.{position-in}
+use Rattle.rules.specs.Ready.{ready-at}
+use Rattle.laws.proofs.Filled.{filled, filled-none, filled-more, filled-all}
 use Rattle.stations.proofs.ready.readiness.Statement.{statement}
 use Rattle.stations.proofs.ready.readiness.Tie as tie
 

@@ -11,7 +11,7 @@ use borrow.Author.Needs.{needs}
 use borrow.Author.Count.{below-none, below-more}
 use borrow.Author.Tests.{not-true, not-false}
 use Rattle.laws.proofs.Places.{each-all, each-not}
-use Rattle.stations.specs.Parts.{priority-in}
+use Rattle.rules.specs.State.{priority-in}
 use Rattle.stations.proofs.sound.bounded.Statement.{statement}
 use Rattle.stations.proofs.sound.bounded.Tie as tie
 

@@ -10,7 +10,7 @@ use borrow.Author.Count.{below-more}
 use borrow.Author.Tests.{not-true, not-false}
 use Rattle.rules.specs.Names.{max-stations}
 use Rattle.list.proofs.From.{each-from, each-from-not}
-use Rattle.stations.specs.Parts.{empty-in}
+use Rattle.rules.specs.State.{empty-in}
 use Rattle.stations.proofs.sound.empty.Statement.{statement}
 use Rattle.stations.proofs.sound.empty.Tie as tie
 

@@ -10,7 +10,7 @@ use borrow.Author.Needs.{needs}
 use borrow.Author.Count.{below-none, below-more}
 use borrow.Author.Tests.{le-leb, lt-leb}
 use Rattle.laws.proofs.Places.{each-all, each-not, tally-within}
-use Rattle.stations.specs.Parts.{priority-in, few-low-in}
+use Rattle.rules.specs.State.{priority-in, few-low-in}
 use Rattle.stations.proofs.Clauses.{few-low-counted}
 use Rattle.stations.proofs.sound.few_low.Statement.{statement}
 use Rattle.stations.proofs.sound.few_low.Tie as tie

@@ -11,7 +11,7 @@ use lib.Signed.{leZ}
 use borrow.Author.Needs.{needs}
 use Rattle.rules.specs.Words.{tally}
 use Rattle.laws.proofs.Places.{tally-suc, tally-within}
-use Rattle.stations.specs.Parts.{priority-in}
+use Rattle.rules.specs.State.{priority-in}
 use Rattle.stations.proofs.sound.low_count.Statement.{statement}
 use Rattle.stations.proofs.sound.low_count.Tie as tie
 

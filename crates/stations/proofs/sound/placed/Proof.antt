@@ -10,7 +10,7 @@ use borrow.Author.Count.{below-none, below-more}
 use borrow.Author.Tests.{not-true, not-false}
 use Rattle.laws.proofs.Places.{each-all, each-not}
 use Rattle.list.specs.Given.{is-at-from}
-use Rattle.stations.specs.Parts.{position-in}
+use Rattle.rules.specs.State.{position-in}
 use Rattle.stations.proofs.sound.placed.Statement.{statement}
 use Rattle.stations.proofs.sound.placed.Tie as tie
 

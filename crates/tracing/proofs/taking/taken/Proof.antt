@@ -20,12 +20,12 @@ same-length c = search needs
 returns : tie.Need-returns
 unfolding taken-pick
 returns c =
-    let back = c .before .before .before in
+    let back = c .before .before in
     let a = back .before .before .before .before .args in
     let yes : (eqb (a .station) no-station && eqb (a .reset) 0) ≡ true =
     both (eq-eqb (a .station) no-station (back .before .if1 .taken)) (eq-eqb (a .reset) 0 (back .if2 .taken))
     in
-    rw (yes, ← c .before .undo .ensures)
+    rw (yes, ← c .undo .ensures)
 
 step-requires : tie.Need-step-requires
 step-requires c κs = search needs

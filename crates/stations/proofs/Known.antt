@@ -7,25 +7,25 @@ use native.Mathlib.Omega.{arith}
 use lib.Dec.{ltb}
 use lib.ListN.{getD}
 use borrow.Author.Tests.{lt-leb}
-use Rattle.rules.specs.Words.{values, each, judge, refusal, _refuses_at_}
+use Rattle.rules.specs.Words.{values, judge, refusal, _refuses_at_}
 use Rattle.rules.specs.Names.{NOT-READY, TURN, RESET, max-stations}
 use Rattle.rules.specs.Records.{Pick}
 use Rattle.rules.specs.State.{State, priority}
-use Rattle.rules.specs.Ready.{next-step, ended, waiting, ready, lowest}
+use Rattle.rules.specs.Ready.{next-step, ready, lowest, ready-at}
 use Rattle.rules.specs.Step.{pick-tests}
 use Rattle.laws.proofs.Places.{each-same, getD-values}
-use Rattle.stations.specs.Parts.{ready-at, yields-to}
+use Rattle.rules.specs.Turn.{lowest-of}
 
 module _ (list : List ℕ) (s : State) {all : List Bool} where
   pub readied : all ≡ values (λ j. ready-at (s .vars) (next-step list s j)) max-stations → all ≡ values (ready list s) max-stations
-  unfolding ended waiting ready
+  unfolding ready
   readied known = known
 
   module _ (known : all ≡ values (ready list s) max-stations) (few : s .n ≤ max-stations) where
-    ready-known : (j : ℕ) → j < s .n → getD all j false ≡ ready list s j
+    pub ready-known : (j : ℕ) → j < s .n → getD all j false ≡ ready list s j
     ready-known j of-list = rw known (getD-values (ready list s) max-stations j false (omega arith))
 
-    lowest-known : (i : ℕ) → each (λ j. yields-to (getD all j false) (priority s i) (priority s j)) (s .n) ≡ lowest list s i
+    pub lowest-known : (i : ℕ) → lowest-of (s .n) (λ j. getD all j false) (priority s) i ≡ lowest list s i
     unfolding lowest
     lowest-known i = each-same _ _ (s .n) (λ j of-list. rw (ready-known j of-list))
 
@@ -34,7 +34,7 @@ module _ (list : List ℕ) (s : State) {all : List Bool} where
         (p : Pick) → p .station < s .n →
         refusal
         ((not (getD all (p .station) false) refuses NOT-READY at 0)
-        ∷ (not (each (λ j. yields-to (getD all j false) (priority s (p .station)) (priority s j)) (s .n)) refuses TURN at 0)
+        ∷ (not (lowest-of (s .n) (λ j. getD all j false) (priority s) (p .station)) refuses TURN at 0)
         ∷ (ltb (s .b) (p .reset) refuses RESET at 0)
         ∷ [])
         ≡ refusal (pick-tests list s p)

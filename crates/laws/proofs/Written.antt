@@ -1,4 +1,4 @@
--- The log's records: where bytes put into it stand, and how start records and picks read back. Assumes nothing.
+-- Bytes put into a buffer, and how a log's records read back. Assumes nothing.
 use mathlib.Core.Path.{_≡_, refl, sym, ap, _∙_}
 use mathlib.Core.Bool.{true}
 use mathlib.Core.List.{List, [], _∷_, _++_, append-assoc}

@@ -1,7 +1,7 @@
--- `run::step::pick_refusal` meets its contract: the first test that refuses decides. Assumes nothing.
+-- `stations::ready::pick_refusal` meets its contract: the first test that refuses decides. Assumes nothing.
 use Rattle.rules.specs.Words.{judge}
-use Rattle.run.proofs.step.pick_refusal.Statement.{statement}
-use Rattle.run.proofs.step.pick_refusal.Tie as tie
+use Rattle.stations.proofs.ready.pick_refusal.Statement.{statement}
+use Rattle.stations.proofs.ready.pick_refusal.Tie as tie
 
 returns : tie.Need-returns
 unfolding judge

@@ -1,13 +1,13 @@
 -- An array that is filled from the front: what its first places hold, and a default in the others. Assumes nothing.
 use Prim.Native.Nat.{ℕ, zero, suc, _+_, _-_, _<_}
 use mathlib.Core.Path.{_≡_, refl, ap}
-use mathlib.Core.List.{List, [], _∷_, _++_, map, append-assoc, append-nil}
+use mathlib.Core.List.{List, _∷_, _++_, map, append-assoc, append-nil}
 use native.Mathlib.Numerals.{add-one}
 use native.Mathlib.Omega.{arith}
-use lib.ListN.{length, getD, set, replicate}
+use lib.ListN.{set, replicate}
 use lib.Seq.{set-at}
 use Rattle.rules.specs.Words.{values}
 use Rattle.laws.proofs.Places.{length-values, values-suc}
 
 module _ {A : Type 0} where
   abbrev pub filled : (ℕ → A) → A → ℕ → ℕ → List A
@@ -26,12 +26,6 @@ module _ {A : Type 0} where
   filled-all f d size =
       let none : size - size ≡ 0 = omega arith in
       rw (none, append-nil)
-
-  -- what each place of a list holds is the list
-  pub values-getD : (xs : List A) (d : A) → values (λ j. getD xs j d) (length xs) ≡ xs
-  unfolding values
-  values-getD [] d = refl
-  values-getD (x ∷ xs) d = ap (λ (rest : List A). x ∷ rest) (values-getD xs d)
 
 pub map-values : {A B : Type 0} (g : A → B) (f : ℕ → A) (n : ℕ) → map g (values f n) ≡ values (λ j. g (f j)) n
 unfolding values

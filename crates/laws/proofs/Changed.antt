@@ -1,9 +1,11 @@
 -- A list whose first n entries are changed by their place. Assumes nothing.
 use mathlib.Core.Path.{_≡_, refl, ap}
 use mathlib.Core.List.{List, [], _∷_}
-use Prim.Native.Nat.{ℕ, zero, suc, _≤_, _<_}
+use Prim.Native.Nat.{ℕ, zero, suc, _+_, _≤_, _<_}
 use native.Mathlib.Nat.{not-suc-le-zero, le-of-suc-le-suc}
-use lib.ListN.{length, getD}
+use native.Mathlib.Numerals.{add-one}
+use native.Mathlib.Omega.{arith}
+use lib.ListN.{length, getD, set}
 use Rattle.rules.specs.Words.{changed}
 
 module _ {A : Type 0} where
@@ -37,3 +39,28 @@ module _ {A : Type 0} where
   changed-has P f (suc n) [] j d l e h = e
   changed-has P f (suc n) (x ∷ xs) zero d l e h = h
   changed-has P f (suc n) (x ∷ xs) (suc j) d l e h = changed-has P (λ i. f (suc i)) n xs j d (le-of-suc-le-suc l) e h
+
+  -- one entry more
+  changed-suc : (f : ℕ → A → A) (n : ℕ) (xs : List A) (d : A) → set (changed f n xs) n (f n (getD xs n d)) ≡ changed f (suc n) xs
+  unfolding changed
+  changed-suc f zero [] d = refl
+  changed-suc f zero (x ∷ xs) d = refl
+  changed-suc f (suc n) [] d = refl
+  changed-suc f (suc n) (x ∷ xs) d = ap (λ (rest : List A). f 0 x ∷ rest) (changed-suc (λ i. f (suc i)) n xs d)
+
+  -- the entry that is next is not changed yet
+  pub changed-next : (f : ℕ → A → A) (n : ℕ) (xs : List A) (d : A) → getD (changed f n xs) n d ≡ getD xs n d
+  changed-next f n xs d = changed-past f n xs n d (omega arith)
+
+  -- one turn of a loop that changes the entries from the front on
+  pub changed-turn : (f : ℕ → A → A) (xs ys : List A) (j : ℕ) (x d : A) → ys ≡ changed f j xs → x ≡ f j (getD ys j d)
+      → set ys j x ≡ changed f (j + 1) xs
+  changed-turn f xs ys j x d so-far new = rw (new, so-far, changed-next) (rw add-one (changed-suc f j xs d))
+
+  -- the changes need agree only below n
+  pub changed-same : (f g : ℕ → A → A) (n : ℕ) (xs : List A) → ((i : ℕ) → i < n → (x : A) → f i x ≡ g i x) → changed f n xs ≡ changed g n xs
+  unfolding changed
+  changed-same f g zero xs same = refl
+  changed-same f g (suc n) [] same = refl
+  changed-same f g (suc n) (x ∷ xs) same =
+      rw (same 0 (omega arith) x, changed-same (λ i. f (suc i)) (λ i. g (suc i)) n xs (λ i l. same (suc i) (omega arith)))

@@ -1,2 +1,0 @@
--- What is asked of parts of a state.
-pub mod Parts
