@@ -5,6 +5,13 @@
  * they are; with status 1 where an answer is not the expected one or differs between the two, which is timing nothing.
  *
  *   bench
+ *
+ * To count instructions it is run once to make every call, compare the answers and write the inputs to a file, a row
+ * each; and then, under an emulator that logs each instruction, for one call at a time, which stands in the log between
+ * two lines of the function `counted`.
+ *
+ *   bench rows FILE
+ *   bench count FILE ROW ours|theirs
  */
 #define _GNU_SOURCE
 #include "both.h"
@@ -512,7 +519,7 @@ static void must_be_right(const char *name, enum call call, uint8_t number, size
     for (size_t i = 0; i < answers; i++)
         same = same && right(call, &our_answers[i], &their_answers[i], number);
     if (!same) {
-        printf("bench: %s, %s: the two differ, or do not answer %d\n", call_names[call], name, number);
+        fprintf(stderr, "bench: %s, %s: the two differ, or do not answer %d\n", call_names[call], name, number);
         exit(1);
     }
 }
@@ -708,16 +715,83 @@ static const char *met(int is_met)
     return is_met ? "met    " : "not met";
 }
 
-int main(void)
+/* ---- counts */
+
+/* A row of the first table: the call, and what it is given. */
+struct row {
+    enum call call;
+    struct input in;
+};
+
+/*
+ * Makes each row's calls, writes the rows to a file and prints their names, a line each. A run that is counted finds its
+ * input there, and has to make none.
+ */
+static int write_rows(const char *path)
 {
-    setvbuf(stdout, NULL, _IOLBF, 0);
-    make_file_subjects();
-    make_run_subjects();
+    static struct row row;
+    FILE *file = fopen(path, "wb");
+    int written = file != NULL;
+    for (const struct subject *s = subjects; written && s < subjects + subject_count; s++) {
+        one_round(s->name, s->call, s->whole, s->number, 1);
+        row.call = s->call;
+        row.in = *s->whole;
+        written = fwrite(&row, sizeof row, 1, file) == 1;
+        printf("%s\t%s\n", call_names[s->call], s->name);
+    }
+    if (!written || fclose(file) != 0) {
+        fprintf(stderr, "bench: %s could not be written\n", path);
+        return 2;
+    }
+    return 0;
+}
+
+/*
+ * Makes one call, of either side. In the emulator's log the lines of this function stand around the call's, so it is
+ * neither inlined nor copied, and its last instruction is not the call.
+ */
+__attribute__((noinline, noclone)) static void counted(const struct row *row, int ours)
+{
+    if (ours)
+        our_calls[row->call](&row->in, &our_answers[0]);
+    else
+        their_calls[row->call](&row->in, &their_answers[0]);
+    __asm__ volatile("");
+}
+
+/* Makes a call of the row of the file at a place, counted from 0. */
+static int count_row(const char *path, long place, int ours)
+{
+    static struct row row;
+    FILE *file = fopen(path, "rb");
+    if (!file || fseek(file, place * (long)sizeof row, SEEK_SET) != 0 || fread(&row, sizeof row, 1, file) != 1) {
+        fprintf(stderr, "bench: %s has no row %ld\n", path, place);
+        return 2;
+    }
+    counted(&row, ours);
+    return 0;
+}
+
+/* The three tables, and which of the aims are met. */
+static void show_tables(void)
+{
     const double ratio = show_ratios();
     const size_t deepest = show_stacks();
     const double growth = show_growths();
     printf("\n%s  no ratio above %.1f: the worst is %.2f\n", met(ratio <= most_ratio), most_ratio, ratio);
     printf("%s  no call above %d bytes of stack: the deepest is %zu\n", met(deepest <= MOST_STACK), MOST_STACK, deepest);
     printf("%s  growth linear, at most %.1f: the worst is %.2f\n", met(growth <= most_growth), most_growth, growth);
+}
+
+int main(int argc, char **argv)
+{
+    setvbuf(stdout, NULL, _IOLBF, 0);
+    if (argc == 5 && strcmp(argv[1], "count") == 0)
+        return count_row(argv[2], atol(argv[3]), strcmp(argv[4], "ours") == 0);
+    make_file_subjects();
+    make_run_subjects();
+    if (argc == 3 && strcmp(argv[1], "rows") == 0)
+        return write_rows(argv[2]);
+    show_tables();
     return 0;
 }

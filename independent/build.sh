@@ -2,7 +2,7 @@
 # Builds selftest and cases with gcc -O2, and again with the sanitizers as
 # selftest-san and cases-san.
 set -e
-cd "$(dirname "$0")"
+cd "$(dirname "$(readlink -f "$0")")"
 CC=${CC:-gcc}
 FLAGS="-std=c11 -Wall -Wextra -Wpedantic -Wshadow -Werror"
 SAN="-O1 -g -fsanitize=address,undefined -fno-sanitize-recover=all"
