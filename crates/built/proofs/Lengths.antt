@@ -2,7 +2,7 @@
 use mathlib.Core.Path.{_≡_, refl, ap, _∙_}
 use mathlib.Core.Bool.{Bool}
 use mathlib.Core.List.{List, [], _∷_, _++_}
-use Prim.Native.Nat.{ℕ, zero, suc, _+_, _≤_, zero-le}
+use Prim.Native.Nat.{ℕ, suc, _+_, _≤_, zero-le}
 use native.Mathlib.Omega.{arith}
 use lib.ListN.{length, length-append, length-map}
 use Rattle.rules.specs.Words.{tally, values}
@@ -10,6 +10,8 @@ use Rattle.rules.specs.Names.{ELSE, FI, OD, END}
 use Rattle.rules.specs.Records.{Record}
 use Rattle.rules.specs.Trees.{Statements, nothing, skip, assign, branch, loop, await, size}
 use Rattle.rules.specs.Build.{bare, start-of, laid, inits, bodies, list-of}
+use Rattle.laws.specs.Number.{number-of}
+use Rattle.laws.proofs.Counts.{tally-values}
 use Rattle.reading.specs.Reading.{flat, flat-stations, flat-file, Proper, end, skips, assigns, branches, loops, awaits, Stations, no-stations, a-station, Sets, no-sets, a-set}
 use Rattle.reading.proofs.Flat.{flat-branch, flat-loop, flat-await}
 pub use Rattle.built.specs.Built.{is-step, steps-in}
@@ -49,12 +51,10 @@ length-bodies j p (x ∷ stations) =
     simp length-append (omega arith)
 
 pub tally-steps : (f : ℕ → Record) (n : ℕ) → tally (λ i. is-step (f i .kind)) n ≡ steps-in (values f n)
-unfolding tally values steps-in
-tally-steps f zero = refl
-tally-steps f (suc n) = rw (tally-steps (λ i. f (suc i)) n)
+tally-steps = tally-values (λ (r : Record). is-step (r .kind))
 
 steps-flat : {b : Bool} {t : Statements} → Proper b t → (rs : List Record) → steps-in (flat t ++ rs) ≡ size t + steps-in rs
-unfolding steps-in flat size
+unfolding number-of flat size
 steps-flat end rs = omega arith
 steps-flat (skips c) rs = let h = steps-flat c rs in omega arith
 steps-flat (assigns k c) rs = let h = steps-flat c rs in rw k (omega arith)
@@ -73,7 +73,7 @@ steps-flat (awaits {r = r} {x = x} {rest = rest} k s c f) rs =
     ap steps-in (flat-await r x rest rs) ∙ rw k (omega arith)
 
 pub steps-stations : {stations : List Statements} → Stations stations → length stations + steps-in (flat-stations stations) ≡ extent stations
-unfolding flat-stations extent steps-in
+unfolding flat-stations extent number-of
 steps-stations no-stations = refl
 steps-stations (a-station {x = x} {stations = stations} s p c) =
     let h = steps-stations c in
@@ -82,7 +82,7 @@ steps-stations (a-station {x = x} {stations = stations} s p c) =
 
 pub steps-file : {initial : List Record} {stations : List Statements} → Sets initial → Stations stations
     → length stations + steps-in (flat-file initial stations) ≡ length initial + extent stations
-unfolding steps-in
+unfolding number-of
 steps-file no-sets c = let h = steps-stations c in omega arith
 steps-file (a-set k s) c = let h = steps-file s c in rw k (omega arith)
 

@@ -1,6 +1,6 @@
 -- Records that are right at their places make a sound list. Assumes nothing.
 use mathlib.Core.Path.{_≡_, refl}
-use mathlib.Core.Bool.{Bool, true, false, _||_, not}
+use mathlib.Core.Bool.{true, false, not, or-true}
 use mathlib.Core.Logic.{inl, inr}
 use mathlib.Core.List.{List}
 use Prim.Native.Nat.{ℕ, suc, _+_, _-_, _≤_, _<_, _%_}
@@ -20,10 +20,6 @@ use Rattle.built.specs.Targets.{blank}
 use Rattle.built.proofs.Along.{Along, along-at}
 use Rattle.built.proofs.Bytes.{length-bytes-of, count-bytes-of, decoded}
 use Rattle.built.proofs.Right.{Initial, sets, Names, Leads, Init, opens, Later, skip-right, set-right, if-right, while-right, await-right, stop-right, Right, as-init, as-initial, as-later, right-fits}
-
-either-yes : (a : Bool) → (a || true) ≡ true
-either-yes true = refl
-either-yes false = refl
 
 skip-fields : fields-right (bare SKIP 0) ≡ true
 unfolding fields-right rules-of
@@ -109,7 +105,7 @@ module _ (es : List ListRecord) (n m : ℕ) (right : Along (Right es n m) 0 es) 
 
   leads-in : {station q t : ℕ} → Leads es n m true station (suc q) t → inside-target list station q t ≡ true
   leads-in {station} {q} {t} (inl e) = rw e
-  leads-in {station} {q} {t} (inr h) = rw (lt-ltb q t (h .0), names-at (h .1)) (either-yes (eqb t 0))
+  leads-in {station} {q} {t} (inr h) = rw (lt-ltb q t (h .0), names-at (h .1)) (or-true (eqb t 0))
 
   init-holds : (j : ℕ) (e : ListRecord) → list-record-at list j ≡ e → Init es n m j e → init-right list j ≡ true
   unfolding init-right

@@ -8,7 +8,7 @@ use lib.ListN.{length, length-map}
 use Rattle.rules.specs.Records.{Record, ListRecord}
 use Rattle.rules.specs.Trees.{Statements, size}
 use Rattle.rules.specs.Build.{initial-record, laid, inits, bodies, list-of}
-use Rattle.built.specs.Targets.{blank, At}
+use Rattle.built.specs.Targets.{blank, StandsAt}
 use Rattle.built.proofs.Along.{Along, along-left, along-right, along-join, along-all}
 use Rattle.built.proofs.Lengths.{length-laid, length-inits}
 
@@ -57,5 +57,5 @@ module _ (P : ℕ → ListRecord → Type 0) (initial : List Record) (stations :
       along-join P 0 is (ms ++ bs) hi (rw after-inits (along-join P n ms bs hm (rw after-initial hb)))
 
 -- each record stands at its place
-pub standing : (es : List ListRecord) → Along (At es) 0 es
-standing es = along-all (At es) 0 es blank (λ i l. rw zero-add (l, refl))
+pub standing : (es : List ListRecord) → Along (StandsAt es) 0 es
+standing es = along-all (StandsAt es) 0 es blank (λ i l. rw zero-add (l, refl))

@@ -10,7 +10,7 @@ use Rattle.rules.specs.Records.{Record, ListRecord}
 use Rattle.rules.specs.Trees.{Statements, size}
 use Rattle.rules.specs.Build.{bare, listed, initial-record, inits, bodies, list-of}
 use Rattle.reading.specs.Reading.{flat, flat-stations, flat-file, Stations, no-stations, a-station, Sets, no-sets, a-set}
-use Rattle.built.specs.Targets.{At}
+use Rattle.built.specs.Targets.{StandsAt}
 use Rattle.built.proofs.Along.{Along, All, all-left, all-right, along-from}
 use Rattle.built.proofs.Lengths.{length-inits}
 use Rattle.built.proofs.Standing.{apart, together, parts-apart, parts-together, standing}
@@ -19,14 +19,14 @@ use Rattle.built.proofs.Steps.{some-start, here, start-leads, right-ste
 
 -- the stations from j on, the first of them at the place p: their INIT records, their steps and their STOPs
 right-stations : (es : List ListRecord) (n m : ℕ) {stations : List Statements} → Stations stations → (j p : ℕ) → j + length stations ≡ n
-    → n + m ≤ p → All Good (flat-stations stations) → Along (At es) p (bodies j p stations)
+    → n + m ≤ p → All Good (flat-stations stations) → Along (StandsAt es) p (bodies j p stations)
     → Along (Init es n m) j (inits j p stations) × Along (Later es n m) p (bodies j p stations)
 unfolding inits bodies flat-stations
 right-stations es n m no-stations j p k l g h = (tt, tt)
 right-stations es n m (a-station {x = x} {stations = stations} s c d) j p k l g h =
     let exit : ℕ = p + size x in
     let rest = listed (bare STOP 0) j 0 0 0 ∷ bodies (suc j) (suc exit) stations in
-    let hx = apart (At es) j 0 p exit x rest h in
+    let hx = apart (StandsAt es) j 0 p exit x rest h in
     let stop = here es n m j false exit (bare STOP 0) 0 0 (omega arith) (hx .1 .0) in
     let others = right-stations es n m d (suc j) (suc exit) (omega arith) (omega arith) (all-right Good (flat x) _ (g .1)) (hx .1 .1) in
     let steps = right-steps es n m j (omega arith) c p exit l (all-left Good (flat x) _ (g .1)) (hx .0) stop in
@@ -49,7 +49,7 @@ right-list initial stations c d g =
     let bs = bodies 0 (n + m) stations in
     let count = length-inits 0 (n + m) stations in
     let count-initial : length ms ≡ m = rw length-map in
-    let parts = parts-apart (At es) initial stations (standing es) in
+    let parts = parts-apart (StandsAt es) initial stations (standing es) in
     let all = right-stations es n m d 0 (n + m) (omega arith) (omega arith) (all-right Good initial (flat-stations stations) g) (parts .2) in
     let sets = right-initials c n (all-left Good initial (flat-stations stations) g) in
     parts-together (Right es n m) initial stations

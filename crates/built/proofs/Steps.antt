@@ -12,7 +12,7 @@ use Rattle.rules.specs.Records.{Record, ListRecord}
 use Rattle.rules.specs.Trees.{Statements, nothing, skip, assign, branch, loop, await, size}
 use Rattle.rules.specs.Build.{bare, listed, start-of, laid}
 use Rattle.reading.specs.Reading.{flat, Some, Proper, end, skips, assigns, branches, loops, awaits}
-use Rattle.built.specs.Targets.{At}
+use Rattle.built.specs.Targets.{StandsAt}
 use Rattle.built.proofs.Along.{Along, All, all-left, all-right}
 use Rattle.built.proofs.Standing.{apart, together}
 use Rattle.built.proofs.Right.{byte, Good, Names, Leads, Later, skip-right, set-right, if-right, while-right, await-right}
@@ -33,7 +33,7 @@ module _ (es : List ListRecord) (n m : ℕ) where
 
   module _ (station : ℕ) where
     -- a record of the station leads to itself
-    pub here : (b : Bool) (p : ℕ) (r : Record) (t u : ℕ) → n + m ≤ p → At es p (listed r station (byte b) t u) → Names es n m (byte b) station p
+    pub here : (b : Bool) (p : ℕ) (r : Record) (t u : ℕ) → n + m ≤ p → StandsAt es p (listed r station (byte b) t u) → Names es n m (byte b) station p
     here b p r t u l h =
         record {
           from = l;
@@ -47,7 +47,7 @@ module _ (es : List ListRecord) (n m : ℕ) where
     names-leads true p h = inr (omega arith, h)
 
     -- and so the first step of statements is right where they and what comes after them are
-    pub start-leads : (b : Bool) (t : Statements) (p exit : ℕ) → n + m ≤ p → Along (At es) p (laid station (byte b) p exit t)
+    pub start-leads : (b : Bool) (t : Statements) (p exit : ℕ) → n + m ≤ p → Along (StandsAt es) p (laid station (byte b) p exit t)
         → Leads es n m b station (p + size t) exit → Leads es n m b station p (start-of p exit t)
     unfolding laid size
     start-leads b nothing p exit l h e = rw (add-zero p) at e
@@ -58,7 +58,7 @@ module _ (es : List ListRecord) (n m : ℕ) where
     start-leads b (await r x rest) p exit l h e = names-leads b p (here b p _ _ _ l (h .0))
 
     -- an AWAIT's body is not empty, so that its first step is the following record
-    body-starts : (x : Statements) (p : ℕ) → Some x → n + m ≤ p → Along (At es) (suc p) (laid station 1 (suc p) 0 x)
+    body-starts : (x : Statements) (p : ℕ) → Some x → n + m ≤ p → Along (StandsAt es) (suc p) (laid station 1 (suc p) 0 x)
         → Names es n m 1 station (suc p)
     body-starts x p s l h = after (start-leads true x (suc p) 0 (omega arith) h (inl refl))
       where
@@ -68,7 +68,7 @@ module _ (es : List ListRecord) (n m : ℕ) where
 
     module _ (numbered : station < n) where
       pub right-steps : {b : Bool} {t : Statements} → Proper b t → (p exit : ℕ) → n + m ≤ p → All Good (flat t)
-          → Along (At es) p (laid station (byte b) p exit t) → Leads es n m b station (p + size t) exit
+          → Along (StandsAt es) p (laid station (byte b) p exit t) → Leads es n m b station (p + size t) exit
           → Along (Later es n m) p (laid station (byte b) p exit t)
       unfolding laid size flat
       right-steps end p exit l g h e = tt
@@ -93,8 +93,8 @@ module _ (es : List ListRecord) (n m : ℕ) where
           let xs = laid station (byte b) (suc p) next x in
           let ys = laid station (byte b) at-y next y in
           let rs = laid station (byte b) at-rest exit rest in
-          let hx = apart (At es) station (byte b) (suc p) next x (ys ++ rs) (h .1) in
-          let hy = apart (At es) station (byte b) at-y next y rs (hx .1) in
+          let hx = apart (StandsAt es) station (byte b) (suc p) next x (ys ++ rs) (h .1) in
+          let hy = apart (StandsAt es) station (byte b) at-y next y rs (hx .1) in
           let q : p + suc (size x + size y + size rest) ≡ at-rest + size rest = omega arith in
           let after : Leads es n m b station (at-rest + size rest) exit = rw q at e in
           let over : Leads es n m b station at-rest next = start-leads b rest at-rest exit (omega arith) (hy .1) after in
@@ -112,7 +112,7 @@ module _ (es : List ListRecord) (n m : ℕ) where
           let next : ℕ = start-of at-rest exit rest in
           let gr = all-right Good (flat x) (bare OD 0 ∷ flat rest) (g .1) in
           let rs = laid station 0 at-rest exit rest in
-          let hx = apart (At es) station 0 (suc p) p x rs (h .1) in
+          let hx = apart (StandsAt es) station 0 (suc p) p x rs (h .1) in
           let back = here false p _ _ _ l (h .0) in
           let over = start-leads false rest at-rest exit (omega arith) (hx .1) e in (
             while-right numbered k (g .0) (start-leads false x (suc p) p (omega arith) (hx .0) back) over,
@@ -125,7 +125,7 @@ module _ (es : List ListRecord) (n m : ℕ) where
           let next : ℕ = start-of at-rest exit rest in
           let gr = all-right Good (flat x) (bare END 0 ∷ flat rest) (g .1) in
           let rs = laid station 0 at-rest exit rest in
-          let hx = apart (At es) station 1 (suc p) 0 x rs (h .1) in
+          let hx = apart (StandsAt es) station 1 (suc p) 0 x rs (h .1) in
           let over = start-leads false rest at-rest exit (omega arith) (hx .1) e in (
             await-right numbered k (g .0) (body-starts x p s l (hx .0)) over,
             together (Later es n m) station 1 (suc p) 0 x rs

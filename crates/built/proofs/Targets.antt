@@ -1,22 +1,22 @@
 -- The records of a list are those of the statements that stand at their places, and lead where the document says. By induction on where
 -- a statement stands. Assumes nothing.
-use mathlib.Core.List.{List, _++_, map}
+use mathlib.Core.List.{List, _++_}
 use Prim.Native.Nat.{ℕ, suc, _+_, _≤_, _<_}
 use native.Mathlib.Omega.{arith}
 use lib.Dec.{ltb}
-use lib.ListN.{length, length-map, List·getD-map}
+use lib.ListN.{length}
 use borrow.Author.Tests.{ltb-true, ltb-false}
 use Rattle.rules.specs.Records.{Record, ListRecord}
 use Rattle.rules.specs.Trees.{Statements, nothing, skip, assign, branch, loop, await, size}
-use Rattle.rules.specs.Build.{initial-record, start-of, laid, inits, bodies, list-of}
+use Rattle.rules.specs.Build.{start-of, laid, inits, bodies, list-of}
 use Rattle.laws.proofs.Choice.{by-test}
-use Rattle.built.specs.Targets.{Statement, a-loop, an-await, Begins, skip-begins, assign-begins, branch-begins, loop-begins, await-begins, Spot, spot, Stands, here, in-rest, in-first, in-second, in-loop, in-body, record-of, At, Initials, Has, this, others, Placed, Targets, Ends, last, ends-rest, ends-first, ends-second, Closing}
-use Rattle.built.proofs.Along.{Along, along-at}
+use Rattle.built.specs.Targets.{Statement, a-loop, an-await, FirstOf, skip-begins, assign-begins, branch-begins, loop-begins, await-begins, Spot, spot, Stands, here, in-rest, in-first, in-second, in-loop, in-body, record-of, StandsAt, Has, this, others, Placed, Targets, LastOf, last, ends-rest, ends-first, ends-second, Closing}
+use Rattle.built.proofs.Along.{Along}
 use Rattle.built.proofs.Standing.{apart, parts-apart, standing}
 
 module _ (P : ℕ → ListRecord → Type 0) (station : ℕ) where
   -- what holds of statements' records holds of the first statement's and of the rest's
-  first-record : {t rest : Statements} {s : Statement} {p q : ℕ} → Begins t p s rest q → (inside after : ℕ)
+  first-record : {t rest : Statements} {s : Statement} {p q : ℕ} → FirstOf t p s rest q → (inside after : ℕ)
       → Along P p (laid station inside p after t) → P p (record-of station (spot inside p (start-of q after rest)) s)
   unfolding laid
   first-record skip-begins inside after h = h .0
@@ -37,7 +37,7 @@ module _ (P : ℕ → ListRecord → Type 0) (station : ℕ) where
       let l = apart P station inside (suc p + size x) next y rs (k .1) in
       (k .0, l .0, l .1)
 
-  rest-records : {t rest : Statements} {s : Statement} {p q : ℕ} → Begins t p s rest q → (inside after : ℕ)
+  rest-records : {t rest : Statements} {s : Statement} {p q : ℕ} → FirstOf t p s rest q → (inside after : ℕ)
       → Along P p (laid station inside p after t) → Along P q (laid station inside q after rest)
   unfolding laid
   rest-records skip-begins inside after h = h .1
@@ -66,7 +66,7 @@ place-by : {X : Type 0} (q k : ℕ) → (q < k → X) → (k ≤ q → X) → X
 place-by q k f g = by-test (ltb q k) (λ e. f (ltb-true q k e)) (λ e. g (ltb-false q k e))
 
 -- at the first place stands the first statement
-first-or : {t rest : Statements} {s : Statement} {p o : ℕ} → Begins t p s rest o → (inside after q : ℕ) → p ≤ q
+first-or : {t rest : Statements} {s : Statement} {p o : ℕ} → FirstOf t p s rest o → (inside after q : ℕ) → p ≤ q
     → (p < q → Placed t (spot inside p after) q) → Placed t (spot inside p after) q
 first-or {rest = rest} {s} {p} {o} b inside after q l f =
     place-by p q f (λ k. record { statement = s; at = spot inside p (start-of o after rest); stands = here b; there = omega arith })
@@ -98,35 +98,27 @@ every-place (await r x rest) inside p after q l h =
 
 -- the stations of a list
 has-targets : (es : List ListRecord) {i o j p : ℕ} {x : Statements} {stations : List Statements} → Has i o stations j p x
-    → Along (At es) i (inits i o stations) → Along (At es) o (bodies i o stations) → Targets es j p x
+    → Along (StandsAt es) i (inits i o stations) → Along (StandsAt es) o (bodies i o stations) → Targets es j p x
 unfolding inits bodies
 has-targets es (this {i} {o} {x}) h k =
-    let parts = apart (At es) i 0 o (o + size x) x _ k in
+    let parts = apart (StandsAt es) i 0 o (o + size x) x _ k in
     record {
       init = h .0;
-      steps = λ s w c. stands-record (At es) i c (parts .0);
+      steps = λ s w c. stands-record (StandsAt es) i c (parts .0);
       every = λ q. every-place x 0 o (o + size x) q;
       stop = parts .1 .0;
     }
 has-targets es (others {i} {o} {y = y} c) h k =
-    has-targets es c (h .1) (apart (At es) i 0 o (o + size y) y _ k .1 .1)
+    has-targets es c (h .1) (apart (StandsAt es) i 0 o (o + size y) y _ k .1 .1)
 
 pub list-targets : (initial : List Record) (stations : List Statements) (j p : ℕ) (x : Statements)
     → Has 0 (length stations + length initial) stations j p x → Targets (list-of initial stations) j p x
 list-targets initial stations j p x c =
-    let parts = parts-apart (At (list-of initial stations)) initial stations (standing (list-of initial stations)) in
+    let parts = parts-apart (StandsAt (list-of initial stations)) initial stations (standing (list-of initial stations)) in
     has-targets (list-of initial stations) c (parts .0) (parts .2)
 
-pub list-initials : (initial : List Record) (stations : List Statements) → Initials (list-of initial stations) (length stations) initial
-list-initials initial stations i d l =
-    let es = list-of initial stations in
-    let n : ℕ = length stations in
-    let parts = parts-apart (At es) initial stations (standing es) in
-    let k : i < length (map initial-record initial) = rw length-map l in
-    rw (List·getD-map initial-record initial i d) at (along-at (At es) n (map initial-record initial) (parts .1) i (initial-record d) k)
-
 -- a step that ends statements is followed by what comes after them
-ends-stands : {t : Statements} {s : Statement} {p q : ℕ} → Ends t p s q → (inside after : ℕ) → Stands t (spot inside p after) s (spot inside q after)
+ends-stands : {t : Statements} {s : Statement} {p q : ℕ} → LastOf t p s q → (inside after : ℕ) → Stands t (spot inside p after) s (spot inside q after)
 ends-stands (last b) inside after = here b
 ends-stands (ends-rest b c) inside after = in-rest b (ends-stands c inside after)
 ends-stands (ends-first c) inside after = in-first (ends-stands c inside after)

@@ -1,15 +1,16 @@
 -- What there is to say of the list that an accepted file is built into. These are definitions.
-use Prim.Native.Nat.{ℕ, suc, _+_, _*_, _≤_, _<_}
+use Prim.Native.Nat.{ℕ, _+_, _*_, _≤_, _<_}
 use mathlib.Core.Path.{_≡_}
 use mathlib.Core.Bool.{Bool, true}
 use mathlib.Core.List.{List, [], _∷_}
 use lib.ListN.{length, getD}
-use Rattle.rules.specs.Words.{if_then_else_, among, tally}
+use Rattle.rules.specs.Words.{among, tally}
 use Rattle.rules.specs.Names.{SKIP, SET, IF, WHILE, AWAIT}
 use Rattle.rules.specs.Records.{Record, record-at, record-count, list-record-at, list-count}
 use Rattle.rules.specs.Trees.{stations-of, initial-part}
 use Rattle.rules.specs.Build.{list-records, bytes-of}
 use Rattle.rules.specs.List.{stations, initials, sound-list}
+use Rattle.laws.specs.Number.{number-of}
 use Rattle.reading.specs.Reading.{flat-stations}
 use Rattle.built.specs.Targets.{blank}
 
@@ -32,9 +33,8 @@ pub record Parted (file : List ℕ) : Type 0 where
 abbrev pub is-step : ℕ → Bool
 is-step kind = among kind (SKIP ∷ SET ∷ IF ∷ WHILE ∷ AWAIT ∷ [])
 
-unfoldable pub steps-in : List Record → ℕ
-steps-in [] = 0
-steps-in (r ∷ rs) = if is-step (r .kind) then suc (steps-in rs) else steps-in rs
+abbrev pub steps-in : List Record → ℕ
+steps-in = number-of (λ (r : Record). is-step (r .kind))
 
 -- "Records of 16 bytes": "With n stations the list has 2n records, plus the initial part, plus all SKIP, SET, IF, WHILE and AWAIT records"
 abbrev pub Long : List ℕ → Type 0

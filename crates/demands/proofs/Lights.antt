@@ -14,10 +14,11 @@ use Rattle.history.specs.Back.{Made, by-start, by-step, below}
 use Rattle.history.proofs.Stack.{stack-facts}
 use Rattle.history.proofs.Back.{undo-below}
 use Rattle.demands.specs.Lights.{InTurn, Lit, LightsFresh}
-use Rattle.demands.proofs.Order.{lights-order}
+use Rattle.laws.proofs.Passed.{lights-passed}
+use Rattle.laws.proofs.Answers.{lights-number}
 
 unrefused-lights : (list : List ℕ) (s : State) → sound-list list ≡ true → sound-state list s ≡ true → lights list s .number ≡ 0
-unrefused-lights list s h v = lights-order list s ∙ rw (h, v)
+unrefused-lights list s h v = lights-number list s ∙ lights-passed list s .1 (record { of-list = h; of-state = v })
 
 lit : (list : List ℕ) (s : State) → sound-list list ≡ true → sound-state list s ≡ true → Lit list s (lights list s)
 lit list s h v = let e = unrefused-lights list s h v in (e, lights-show list s e)

@@ -19,7 +19,7 @@ use Rattle.laws.proofs.Places.{length-values, getD-values}
 use Rattle.fair.specs.Sound.{StartSound}
 use Rattle.fair.proofs.Order.{low}
 use Rattle.laws.proofs.Counts.{tally-none}
-use Rattle.laws.proofs.Sound.{Sound, sound-means}
+use Rattle.laws.proofs.Sound.{Clauses, sound-means}
 use Rattle.laws.proofs.Sound.{inits-right}
 use Rattle.laws.proofs.Answers.{start-can, start-state}
 use Rattle.fair.proofs.Held.{started-held}
@@ -69,7 +69,7 @@ module _ (list : List ℕ) (b : ℕ) (resets : List ℕ) where
       rw (no-position j l, start-priority j, z, empty-at)
 
   pub started-sound : sound-list list ≡ true → length resets ≡ stations list
-      → ((j : ℕ) → j < stations list → getD resets j 0 ≤ b) → Sound list (started list b resets)
+      → ((j : ℕ) → j < stations list → getD resets j 0 ≤ b) → Clauses list (started list b resets)
   unfolding started
   started-sound h n r =
       record {

@@ -19,7 +19,7 @@ use Rattle.laws.proofs.Choice.{by-test, both-left}
 use Rattle.fair.specs.Charged.{Chosen}
 use Rattle.fair.specs.Sound.{StepSound}
 use Rattle.fair.proofs.Charge.{few-low-kept, bound-kept, rest-kept}
-use Rattle.laws.proofs.Sound.{Sound, sound-means}
+use Rattle.laws.proofs.Sound.{Clauses, sound-means}
 use Rattle.fair.proofs.Targets.{position-outside}
 use Rattle.laws.proofs.Answers.{picked-can, picked-state, picked-leaves, step-state, step-refused}
 use Rattle.fair.proofs.Taken.{pick-allowed, step-taken}
@@ -38,7 +38,7 @@ going : (list : List ℕ) (s : State) (j : ℕ) → ready list s j ≡ true → 
 unfolding ready ended
 going list s j r = not-true _ (both-left _ _ r)
 
-module _ (list : List ℕ) (s : State) (p : Pick) (h : sound-list list ≡ true) (v : Sound list s) (c : Chosen list s (p .station)) where
+module _ (list : List ℕ) (s : State) (p : Pick) (h : sound-list list ≡ true) (v : Clauses list s) (c : Chosen list s (p .station)) where
   placed : (j : ℕ) → j < s .n → outside list j (position (stepped list s p) j) ≡ true
   unfolding stepped
   placed j l =
@@ -55,7 +55,7 @@ module _ (list : List ℕ) (s : State) (p : Pick) (h : sound-list list ≡ true)
   unfolding empty-at
   empty j from below = rw (position-kept j from, rest-kept list s p j from, empty-at) (v .empty j from below)
 
-  pub stepped-sound : p .reset ≤ s .b → s .m < max-steps → Sound list (stepped list s p)
+  pub stepped-sound : p .reset ≤ s .b → s .m < max-steps → Clauses list (stepped list s p)
   unfolding stepped
   stepped-sound r m =
       record {

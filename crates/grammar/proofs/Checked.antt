@@ -16,7 +16,7 @@ use Rattle.laws.proofs.Judge.{judge-yes, judge-no}
 use Rattle.grammar.specs.Grammar.{Sequence}
 use Rattle.grammar.specs.Meaning.{Fault, Passes-three}
 use Rattle.grammar.proofs.Made.{made}
-use Rattle.grammar.proofs.Taken.{taken}
+use Rattle.grammar.proofs.Taken.{is-sequence}
 use Rattle.grammar.proofs.Placed.{fault-of, fault-place}
 
 number : {a b : Answer} → a ≡ b → a .number ≡ b .number
@@ -76,7 +76,7 @@ module _ (file : List ℕ) (p : Passes-three file) where
       (λ f. fault-of (kinds file) i (ap (λ (a : Answer). a .place) (sym (refuses-shape f) ∙ c)) f)
 
   pub passed-sequence : (check file .number ≡ SHAPE → ⊥) → Sequence (kinds file)
-  passed-sequence n = by-test (well-shaped (kinds file)) (taken (kinds file)) (λ f. absurd (n (number (refuses-shape f))))
+  passed-sequence n = by-test (well-shaped (kinds file)) (is-sequence (kinds file)) (λ f. absurd (n (number (refuses-shape f))))
 
   pub sequence-passed : Sequence (kinds file) → check file .number ≡ SHAPE → ⊥
   sequence-passed s = passes-shape (made s)

@@ -8,10 +8,10 @@ use lib.Dec.{eqb}
 use Rattle.rules.specs.Names.{STATION, SKIP, SET, ELSE, FI, OD, END}
 use Rattle.rules.specs.Shape.{Part, opened, grown, Stand, initial, within, wrong, stride, is-wrong, finished, walked, well-shaped}
 use Rattle.laws.proofs.Choice.{by-test}
-use Rattle.reading.proofs.Strides.{closes-inner, closing, Nested, nested-closes, Inside, inside-stride}
-use Rattle.grammar.specs.Grammar.{Begins}
+use Rattle.reading.proofs.Strides.{closes-inner, closing, Nested, nested-closes, InPart, inside-stride}
+use Rattle.grammar.specs.Grammar.{Continues}
 use Rattle.grammar.proofs.Made.{made}
-use Rattle.grammar.proofs.Taken.{taken}
+use Rattle.grammar.proofs.Taken.{is-sequence}
 
 walked-append : (s : Stand) (xs ys : List ℕ) → walked s (xs ++ ys) ≡ walked (walked s xs) ys
 unfolding walked
@@ -38,24 +38,24 @@ finished-right (within p ps) e = refl
 finished-right wrong e = absurd (false≢true e)
 
 -- a stand that the walk comes to
-abbrev pub Reached : Stand → Type 0
-Reached initial = Unit {0}
-Reached (within p ps) = Inside (within p ps)
-Reached wrong = Unit {0}
+abbrev pub Attained : Stand → Type 0
+Attained initial = Unit {0}
+Attained (within p ps) = InPart (within p ps)
+Attained wrong = Unit {0}
 
-inside-reached : (s : Stand) → Inside s → Reached s
+inside-reached : (s : Stand) → InPart s → Attained s
 inside-reached initial n = tt
 inside-reached (within p ps) n = n
 inside-reached wrong n = n
 
-pub reached-stride : (s : Stand) (k : ℕ) → Reached s → Reached (stride s k)
+pub reached-stride : (s : Stand) (k : ℕ) → Attained s → Attained (stride s k)
 unfolding stride
 reached-stride initial k n =
     by-test (eqb k SET) (λ e. rw e tt) (λ f. by-test (eqb k STATION) (λ e. rw (f, e) refl) (λ e. rw (f, e) tt))
 reached-stride (within p ps) k n = inside-reached (stride (within p ps) k) (inside-stride (within p ps) k n)
 reached-stride wrong k n = n
 
-reached : (s : Stand) (ks : List ℕ) → Reached s → Reached (walked s ks)
+reached : (s : Stand) (ks : List ℕ) → Attained s → Attained (walked s ks)
 unfolding walked
 reached s [] n = n
 reached s (k ∷ ks) n = reached (stride s k) ks (reached-stride s k n)
@@ -85,18 +85,18 @@ unfolding walked stride
 finishes p [] n = (SKIP ∷ [], refl)
 finishes p (q ∷ qs) n = closed-next p q qs n (finishes q qs (n .1))
 
-right-finishes : (s : Stand) → Reached s → is-wrong s ≡ false → Finishes s
+right-finishes : (s : Stand) → Attained s → is-wrong s ≡ false → Finishes s
 unfolding walked stride
 right-finishes initial n e = (STATION ∷ SKIP ∷ [], refl)
 right-finishes (within p ps) n e = finishes p ps n
 right-finishes wrong n e = absurd (true≢false e)
 
-pub right-begins : (ks : List ℕ) → is-wrong (walked initial ks) ≡ false → Begins ks
+pub right-begins : (ks : List ℕ) → is-wrong (walked initial ks) ≡ false → Continues ks
 unfolding well-shaped
 right-begins ks e =
     let f = right-finishes (walked initial ks) (reached initial ks tt) e in
-    (f .0, taken (ks ++ f .0) (ap finished (walked-append initial ks (f .0)) ∙ f .1))
+    (f .0, is-sequence (ks ++ f .0) (ap finished (walked-append initial ks (f .0)) ∙ f .1))
 
-pub begins-right : (ks : List ℕ) → Begins ks → is-wrong (walked initial ks) ≡ false
+pub begins-right : (ks : List ℕ) → Continues ks → is-wrong (walked initial ks) ≡ false
 unfolding well-shaped
 begins-right ks b = right-before ks (b .0) (finished-right (walked initial (ks ++ b .0)) (made (b .1)))

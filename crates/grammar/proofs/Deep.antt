@@ -14,7 +14,7 @@ use Rattle.laws.proofs.Choice.{by-test}
 use Rattle.reading.proofs.Strides.{Stride, by-skip, by-set, by-if, by-while, by-await, by-close, by-fault, strides}
 use Rattle.reading.proofs.Strides.{closes, closing, nested-closes}
 use Rattle.grammar.specs.Meaning.{nesting, nesting-at}
-use Rattle.grammar.proofs.Continued.{right-from, Reached, reached-stride}
+use Rattle.grammar.proofs.Continued.{right-from, Attained, reached-stride}
 
 nesting-left : (ps : List Part) → suc (nesting ps) - 1 ≡ nesting-at (leave ps)
 unfolding nesting
@@ -22,7 +22,7 @@ nesting-left [] = refl
 nesting-left (p ∷ ps) = omega arith
 
 -- one record more
-depth-stride : (s : Stand) (k : ℕ) → Reached s → is-wrong (stride s k) ≡ false → depth-after (nesting-at s) k ≡ nesting-at (stride s k)
+depth-stride : (s : Stand) (k : ℕ) → Attained s → is-wrong (stride s k) ≡ false → depth-after (nesting-at s) k ≡ nesting-at (stride s k)
 unfolding stride nesting
 depth-stride initial k n r =
     by-test (eqb k SET) (λ e. rw (eqb-true k SET e)) (λ f.
@@ -46,7 +46,7 @@ depth-stride (within p ps) k n r = go (strides p ps k closed)
     go (by-fault t) = absurd (true≢false (ap is-wrong (sym t) ∙ r))
 depth-stride wrong k n r = absurd (true≢false r)
 
-pub deep : (s : Stand) (ks : List ℕ) → Reached s → is-wrong (walked s ks) ≡ false
+pub deep : (s : Stand) (ks : List ℕ) → Attained s → is-wrong (walked s ks) ≡ false
     → too-deep-at (nesting-at s) ks ≡ first (λ i. opens (getD ks i 0) && leb max-depth (nesting-at (walked s (take i ks)))) (length ks)
 unfolding too-deep-at first walked
 deep s [] n r = refl

@@ -12,10 +12,10 @@ use Rattle.rules.specs.Records.{record-at, record-count}
 use Rattle.rules.specs.Shape.{initial, well-shaped, shape-place, too-deep-at}
 use Rattle.rules.specs.Check.{kinds, depth-place, check}
 use Rattle.laws.proofs.Places.{length-values}
-use Rattle.grammar.specs.Grammar.{Sequence, Begins}
+use Rattle.grammar.specs.Grammar.{Sequence, Continues}
 use Rattle.grammar.specs.Meaning.{Fault, Passes-three, seventeenth}
 use Rattle.grammar.proofs.Made.{made}
-use Rattle.grammar.proofs.Taken.{taken}
+use Rattle.grammar.proofs.Taken.{is-sequence}
 use Rattle.grammar.proofs.Continued.{begins-right}
 use Rattle.grammar.proofs.Placed.{place-begins, begins-place, count-begins, begins-count, not-shaped, not-sequence}
 use Rattle.grammar.proofs.Deep.{deep}
@@ -23,14 +23,14 @@ use Rattle.grammar.proofs.Checked.{refused-fault, fault-refused, passed
 
 module _ (ks : List ℕ) where
   pub shaped-is : (well-shaped ks ≡ true) ↔ Sequence ks
-  shaped-is = (taken ks, made)
+  shaped-is = (is-sequence ks, made)
 
   -- "the first record after which no continuation … is well shaped"
-  pub place-is : (i : ℕ) → i < length ks → (shape-place ks ≡ i) ↔ (Begins (take i ks) × (Begins (take (suc i) ks) → ⊥))
+  pub place-is : (i : ℕ) → i < length ks → (shape-place ks ≡ i) ↔ (Continues (take i ks) × (Continues (take (suc i) ks) → ⊥))
   place-is i h = (place-begins ks i h, λ b. begins-place ks i h (b .0) (b .1))
 
   -- "if there is none and the file is unfinished, the number of records"
-  pub count-is : ((shape-place ks ≡ length ks) × (well-shaped ks ≡ false)) ↔ (Begins ks × (Sequence ks → ⊥))
+  pub count-is : ((shape-place ks ≡ length ks) × (well-shaped ks ≡ false)) ↔ (Continues ks × (Sequence ks → ⊥))
   count-is = (λ e. (count-begins ks (e .0), not-sequence ks (e .1)), λ b. (begins-count ks (b .0), not-shaped ks (b .1)))
 
   -- "first record that is the seventeenth open"; the number of records where there is none

@@ -12,10 +12,10 @@ use Rattle.rules.specs.Words.{first}
 use Rattle.rules.specs.Shape.{Stand, initial, stride, is-wrong, walked, wrong-at, well-shaped, shape-place}
 use Rattle.laws.proofs.Choice.{by-test}
 use Rattle.laws.proofs.Places.{first-is, first-none, first-within, first-before, first-at}
-use Rattle.grammar.specs.Grammar.{Sequence, Begins}
+use Rattle.grammar.specs.Grammar.{Sequence, Continues}
 use Rattle.grammar.specs.Meaning.{Fault, at-record, unfinished}
 use Rattle.grammar.proofs.Made.{made}
-use Rattle.grammar.proofs.Taken.{taken}
+use Rattle.grammar.proofs.Taken.{is-sequence}
 use Rattle.grammar.proofs.Continued.{right-before, right-begins, begins-right}
 
 -- the walk over the records up to this one, it too, is wrong
@@ -28,41 +28,41 @@ place-first s [] = refl
 place-first s (k ∷ ks) = rw (place-first (stride s k) ks)
 
 -- with a first part that begins a sequence, a shorter one does
-begins-shorter : (ks : List ℕ) (i : ℕ) → Begins ks → is-wrong (walked initial (take i ks)) ≡ false
+begins-shorter : (ks : List ℕ) (i : ℕ) → Continues ks → is-wrong (walked initial (take i ks)) ≡ false
 begins-shorter ks i b = right-before (take i ks) (drop i ks) (rw take-append-drop (begins-right ks b))
 
-not-begun : (ks : List ℕ) → (Begins ks → ⊥) → is-wrong (walked initial ks) ≡ true
+not-begun : (ks : List ℕ) → (Continues ks → ⊥) → is-wrong (walked initial ks) ≡ true
 not-begun ks n = by-test (is-wrong (walked initial ks)) (λ e. e) (λ e. absurd (n (right-begins ks e)))
 
-begun-before : (ks : List ℕ) (i : ℕ) → i ≤ first (wrong-after initial ks) (length ks) → Begins (take i ks)
+begun-before : (ks : List ℕ) (i : ℕ) → i ≤ first (wrong-after initial ks) (length ks) → Continues (take i ks)
 unfolding walked
 begun-before ks zero h = right-begins (take 0 ks) refl
 begun-before ks (suc i) h = right-begins (take (suc i) ks) (first-before (wrong-after initial ks) (length ks) i h)
 
 module _ (ks : List ℕ) where
-  pub place-begins : (i : ℕ) → i < length ks → shape-place ks ≡ i → Begins (take i ks) × (Begins (take (suc i) ks) → ⊥)
+  pub place-begins : (i : ℕ) → i < length ks → shape-place ks ≡ i → Continues (take i ks) × (Continues (take (suc i) ks) → ⊥)
   place-begins i h e =
       let f : first (wrong-after initial ks) (length ks) ≡ i = sym (place-first initial ks) ∙ e in (
         begun-before ks i (omega arith),
         λ b. true≢false (sym (rw f at (first-at (wrong-after initial ks) (length ks) (omega arith))) ∙ begins-right (take (suc i) ks) b),
       )
 
-  pub begins-place : (i : ℕ) → i < length ks → Begins (take i ks) → (Begins (take (suc i) ks) → ⊥) → shape-place ks ≡ i
+  pub begins-place : (i : ℕ) → i < length ks → Continues (take i ks) → (Continues (take (suc i) ks) → ⊥) → shape-place ks ≡ i
   begins-place i h b n =
       place-first initial ks
       ∙ first-is (wrong-after initial ks) (length ks) i h (not-begun (take (suc i) ks) n)
       (λ k l. rw (take-take (suc k) i ks l) at (begins-shorter (take i ks) (suc k) b))
 
-  pub count-begins : shape-place ks ≡ length ks → Begins ks
+  pub count-begins : shape-place ks ≡ length ks → Continues ks
   count-begins e =
       let f : first (wrong-after initial ks) (length ks) ≡ length ks = sym (place-first initial ks) ∙ e in
       rw take-length at (begun-before ks (length ks) (omega arith))
 
-  pub begins-count : Begins ks → shape-place ks ≡ length ks
+  pub begins-count : Continues ks → shape-place ks ≡ length ks
   begins-count b = place-first initial ks ∙ first-none (wrong-after initial ks) (length ks) (λ k l. begins-shorter ks (suc k) b)
 
   pub not-shaped : (Sequence ks → ⊥) → well-shaped ks ≡ false
-  not-shaped n = by-test (well-shaped ks) (λ e. absurd (n (taken ks e))) (λ e. e)
+  not-shaped n = by-test (well-shaped ks) (λ e. absurd (n (is-sequence ks e))) (λ e. e)
 
   pub not-sequence : well-shaped ks ≡ false → Sequence ks → ⊥
   not-sequence e s = true≢false (sym (made s) ∙ e)

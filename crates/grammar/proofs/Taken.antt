@@ -66,9 +66,9 @@ kinds-of-bare : (ks : List ℕ) → kinds-of (bare-records ks) ≡ ks
 kinds-of-bare [] = refl
 kinds-of-bare (k ∷ ks) = ap (λ (l : List ℕ). k ∷ l) (kinds-of-bare ks)
 
-pub taken : (ks : List ℕ) → well-shaped ks ≡ true → Sequence ks
+pub is-sequence : (ks : List ℕ) → well-shaped ks ≡ true → Sequence ks
 unfolding well-shaped
-taken ks e =
+is-sequence ks e =
     let rs = bare-records ks in
     let w = whole rs (all-bare ks) (ap well-shaped (kinds-of-bare ks) ∙ e) in
     subst Sequence (ap kinds-of (w .same) ∙ kinds-of-bare ks) (kinds-sequence (w .sets) (w .stations) (w .one-at-least))

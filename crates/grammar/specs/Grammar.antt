@@ -34,5 +34,5 @@ abbrev pub Sequence : List ℕ → Type 0
 Sequence = Shaped sequence
 
 -- they begin a well-shaped sequence: some "continuation of any length (any depth, any number of stations) is well shaped"
-abbrev pub Begins : List ℕ → Type 0
-Begins kinds = (rest : List ℕ) × Sequence (kinds ++ rest)
+abbrev pub Continues : List ℕ → Type 0
+Continues kinds = (rest : List ℕ) × Sequence (kinds ++ rest)

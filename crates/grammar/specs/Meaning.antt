@@ -11,12 +11,12 @@ use Rattle.rules.specs.Names.{STATION, max-depth, max-stations}
 use Rattle.rules.specs.Records.{record-count}
 use Rattle.rules.specs.Shape.{Part, Stand, initial, within, wrong, walked, opens}
 use Rattle.rules.specs.Check.{wrong-length, field-place, station-count}
-use Rattle.grammar.specs.Grammar.{Sequence, Begins}
+use Rattle.grammar.specs.Grammar.{Sequence, Continues}
 
 -- "the first record after which no continuation … is well shaped; if there is none and the file is unfinished, the number of records"
 pub data Fault (kinds : List ℕ) (place : ℕ) : Type 0 where
-  at-record : place < length kinds → Begins (take place kinds) → (Begins (take (suc place) kinds) → ⊥) → Fault kinds place
-  unfinished : place ≡ length kinds → Begins kinds → (Sequence kinds → ⊥) → Fault kinds place
+  at-record : place < length kinds → Continues (take place kinds) → (Continues (take (suc place) kinds) → ⊥) → Fault kinds place
+  unfinished : place ≡ length kinds → Continues kinds → (Sequence kinds → ⊥) → Fault kinds place
 
 -- the file passes the tests that come before SHAPE
 pub record Passes-three (file : List ℕ) : Type 0 where

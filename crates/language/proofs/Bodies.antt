@@ -1,11 +1,9 @@
 -- A body's run by its records is the run of its statements to the end. By induction on the statements. Assumes nothing.
 use mathlib.Core.Path.{_≡_, refl, _∙_}
-use mathlib.Core.Bool.{true, false}
+use mathlib.Core.Bool.{true}
 use mathlib.Core.List.{List, _++_}
 use Prim.Native.Nat.{ℕ, zero, suc, _+_, _≤_}
 use native.Mathlib.Omega.{arith}
-use lib.Dec.{eqb}
-use borrow.Author.Tests.{ne-eqb}
 use Rattle.rules.specs.Records.{ListRecord, list-record-at}
 use Rattle.rules.specs.Values.{holds}
 use Rattle.rules.specs.Trees.{Statements, size}
@@ -17,6 +15,7 @@ use Rattle.built.proofs.Along.{Along}
 use Rattle.built.proofs.Standing.{apart}
 use Rattle.built.proofs.Steps.{some-start}
 use Rattle.language.specs.Language.{Program, E, _⨾_, ⟨_∣_⟩⟶⟨_∣_⟩, skip-rule, assign-rule, if-true, if-false, sequence-rule, ⟨_∣_⟩⟶*⟨_∣_⟩, stay, and-then}
+use Rattle.laws.proofs.Bodies.{body-leaves, body-goes}
 use Rattle.language.specs.Rests.{program-of}
 use Rattle.language.proofs.Sequence.{then-nothing}
 
@@ -31,13 +30,7 @@ module _ (list : List ℕ) where
 
   run-one : (c p : ℕ) (σ : List ℕ) (e : ListRecord) → 1 ≤ p → Spelt p e
       → body-run list (suc c) p σ ≡ body-run list c (target-after σ e) (vars-after σ (e .own))
-  unfolding body-run
-  run-one c p σ e l h = let outside : eqb p 0 ≡ false = ne-eqb p 0 (λ z. omega arith) in rw (outside, body-run) (rw h)
-
-  run-left : (c : ℕ) (σ : List ℕ) → body-run list c 0 σ ≡ σ
-  unfolding body-run
-  run-left zero σ = refl
-  run-left (suc c) σ = refl
+  run-one c p σ e l h = body-goes list c p σ (λ z. omega arith) ∙ rw h
 
   -- from a place with enough steps to go, the run comes to the exit with d of them left, as S comes to K
   record Runs (S K : Program) (σ : List ℕ) (c p d exit : ℕ) : Type 0 where
@@ -94,4 +87,4 @@ module _ (list : List ℕ) where
         → (σ : List ℕ) → ⟨ program-of t ∣ σ ⟩⟶*⟨ E ∣ body-run list c p σ ⟩
     body-ends {t} s k c p l n h σ =
         let r = rw (some-start t p 0 s) at (runs k E σ c p 0 0 l (omega arith) h) in
-        rw (r .same, run-left (r .left) (r .after)) (rw then-nothing at (r .moves))
+        rw (r .same, body-leaves list (r .left) (r .after)) (rw then-nothing at (r .moves))

@@ -11,7 +11,7 @@ use Rattle.rules.specs.Records.{Pick, pick-bytes}
 use Rattle.rules.specs.Build.{Built, build-tests, build}
 use Rattle.rules.specs.State.{State}
 use Rattle.rules.specs.Start.{started, start-records, Started, start-tests, start}
-use Rattle.rules.specs.Step.{stepped, pick-tests, Picked, picked, before-pick, step-tests, Stepped, step}
+use Rattle.rules.specs.Step.{stepped, pick-tests, Picked, picked, step-tests, Stepped, step}
 use Rattle.rules.specs.Undo.{Undone, replayed, before-replay, replay-tests, undo-tests, undo}
 use Rattle.rules.specs.Lights.{Lights, lights-tests, lights}
 use Rattle.laws.specs.Passed.{CanStart, CanStep, CanPick, CanReplay, CanUndo}
@@ -100,14 +100,6 @@ module _ (list : List ℕ) (s : State) (log : List ℕ) (p : Pick) where
   step-picked can =
       let same = step-tests-pick list s log p can in
       by-test (eqb (refusal (pick-tests list s p)) 0) (λ e. rw (same, e)) (λ e. rw (same, e, e))
-
-  -- and else that refusal
-  pub step-refused-before : (refusal (before-pick list s log) ≡ 0 → ⊥)
-      → step list s log p ≡ record { number = refusal (before-pick list s log); state = s; log = log }
-  unfolding step
-  step-refused-before h =
-      let same = ap (λ (a : Answer). a .number) (judge-before (before-pick list s log) (pick-tests list s p) h) in
-      rw (same, ne-eqb _ 0 h)
 
 module _ (list : List ℕ) (s : State) (log : List ℕ) where
   pub undo-number : undo list s log .number ≡ refusal (undo-tests list s log)

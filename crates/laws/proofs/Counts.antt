@@ -1,10 +1,11 @@
--- Two tests counted over the same places. Assumes nothing.
+-- Tests counted over places. Assumes nothing.
 use mathlib.Core.Path.{_≡_, refl}
 use mathlib.Core.Bool.{Bool, true, false}
 use Prim.Native.Nat.{ℕ, zero, suc, _+_, _≤_, _<_, zero-le}
 use native.Mathlib.Nat.{not-suc-le-zero, le-of-suc-le-suc}
 use native.Mathlib.Omega.{arith}
-use Rattle.rules.specs.Words.{tally}
+use Rattle.rules.specs.Words.{tally, values}
+use Rattle.laws.specs.Number.{number-of}
 use Rattle.laws.proofs.Choice.{by-test}
 
 -- where one test holds the other does: it is counted no less often
@@ -35,3 +36,9 @@ pub tally-none : (f : ℕ → Bool) (n : ℕ) → ((j : ℕ) → j < n → f j �
 unfolding tally
 tally-none f zero h = refl
 tally-none f (suc n) h = rw (h 0 (omega arith)) (tally-none (λ j. f (suc j)) n (λ j l. h (suc j) (omega arith)))
+
+-- a test counted over places is counted over what they hold
+pub tally-values : {A : Type 0} (test : A → Bool) (f : ℕ → A) (n : ℕ) → tally (λ i. test (f i)) n ≡ number-of test (values f n)
+unfolding tally values number-of
+tally-values test f zero = refl
+tally-values test f (suc n) = rw (tally-values test (λ i. f (suc i)) n)

@@ -6,6 +6,7 @@ pub mod Filled
 pub mod Judge
 pub mod Written
 pub mod Lowest
+pub mod Bodies
 pub mod Sound
 pub mod Passed
 pub mod Answers

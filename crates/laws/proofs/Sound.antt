@@ -20,13 +20,13 @@ use Rattle.laws.proofs.Choice.{by-test, surely, both, split}
 use Rattle.laws.proofs.Places.{each-at, each-all, each-from}
 
 -- record p, found outside (byte 0) or inside (byte 1)
-pub record At (list : List ℕ) (byte station p : ℕ) : Type 0 where
+pub record Found (list : List ℕ) (byte station p : ℕ) : Type 0 where
   pub from : later list ≤ p
   pub within : p < list-count list
   pub byte-is : list-record-at list p .inside ≡ byte
   pub of-station : list-record-at list p .station ≡ station
 
-pub at-means : (list : List ℕ) (byte station p : ℕ) → is-at list byte station p ≡ true → At list byte station p
+pub at-means : (list : List ℕ) (byte station p : ℕ) → is-at list byte station p ≡ true → Found list byte station p
 unfolding is-at
 at-means list byte station p here =
     let e = list-record-at list p in
@@ -114,7 +114,7 @@ module _ (list : List ℕ) (sound : sound-list list ≡ true) where
         }
 
 -- a sound state
-pub record Sound (list : List ℕ) (s : State) : Type 0 where
+pub record Clauses (list : List ℕ) (s : State) : Type 0 where
   pub of-list : s .n ≡ stations list
   pub few-steps : s .m ≤ max-steps
   pub placed : (j : ℕ) → j < s .n → outside list j (position s j) ≡ true
@@ -122,7 +122,7 @@ pub record Sound (list : List ℕ) (s : State) : Type 0 where
   pub few : (i : ℕ) → i < s .n → few-low s (suc i) ≡ true
   pub empty : (j : ℕ) → s .n ≤ j → j < max-stations → empty-at s j ≡ true
 
-pub sound-means : (list : List ℕ) (s : State) → (sound-state list s ≡ true) ↔ Sound list s
+pub sound-means : (list : List ℕ) (s : State) → (sound-state list s ≡ true) ↔ Clauses list s
 unfolding sound-state
 sound-means list s = (
   λ h.

@@ -14,11 +14,11 @@ use Rattle.rules.specs.Values.{holds}
 use Rattle.rules.specs.Move.{vars-after, target-after, body-run}
 use Rattle.laws.proofs.Choice.{by-test}
 use Rattle.laws.proofs.Sound.{Onward, Inside, inside-means}
-use Rattle.moves.specs.Body.{Ends, leaves, runs}
-use Rattle.moves.proofs.Turns.{body-leaves, body-goes}
+use Rattle.moves.specs.Body.{BodyEnds, leaves, runs}
+use Rattle.laws.proofs.Bodies.{body-leaves, body-goes}
 
 -- a body has one end
-one-end : (list : List ℕ) {place : ℕ} {vars end end′ : List ℕ} → Ends list place vars end → Ends list place vars end′ → end ≡ end′
+one-end : (list : List ℕ) {place : ℕ} {vars end end′ : List ℕ} → BodyEnds list place vars end → BodyEnds list place vars end′ → end ≡ end′
 one-end list leaves leaves = refl
 one-end list leaves (runs n d) = absurd (n refl)
 one-end list (runs n d) leaves = absurd (n refl)
@@ -35,12 +35,12 @@ target-onward list station place vars here =
     (λ d. rw d (here .by-t1))
 
 -- at 0 a body has ended; from a record inside it ends, if as many records may be run as the list has from there on
-ends-here : (list : List ℕ) (left place : ℕ) (vars : List ℕ) → place ≡ 0 → Ends list place vars (body-run list left place vars)
+ends-here : (list : List ℕ) (left place : ℕ) (vars : List ℕ) → place ≡ 0 → BodyEnds list place vars (body-run list left place vars)
 ends-here list left place vars e = rw (e, body-leaves list left vars) leaves
 
 ends :
     (list : List ℕ) (station : ℕ) → sound-list list ≡ true → (left place : ℕ) (vars : List ℕ) →
-    list-count list ≤ left + place → inside list station place ≡ true → Ends list place vars (body-run list left place vars)
+    list-count list ≤ left + place → inside list station place ≡ true → BodyEnds list place vars (body-run list left place vars)
 ends list station sound zero place vars enough here =
     absurd (let is = inside-means list sound station place here in omega arith)
 ends list station sound (suc left) place vars enough here =
@@ -58,7 +58,7 @@ ends list station sound (suc left) place vars enough here =
 -- on a sound list, from a record inside, running a body gives these variables exactly when the body ends with them
 pub body-is :
     (list : List ℕ) (station place : ℕ) (vars end : List ℕ) → sound-list list ≡ true → inside list station place ≡ true →
-    (body-run list (list-count list) place vars ≡ end) ↔ Ends list place vars end
+    (body-run list (list-count list) place vars ≡ end) ↔ BodyEnds list place vars end
 body-is list station place vars end sound here =
     let run = ends list station sound (list-count list) place vars (omega arith) here in
     (λ e. rw e at run, λ other. one-end list run other)

@@ -7,28 +7,14 @@ use native.Mathlib.Numerals.{add-one}
 use native.Mathlib.Omega.{arith}
 use lib.ListN.{length, set}
 use lib.Seq.{set-set}
-use borrow.Author.Tests.{ne-eqb}
 use Rattle.rules.specs.Records.{ListRecord, record-from, list-record-at}
 use Rattle.rules.specs.Values.{set-value, assigned}
 use Rattle.rules.specs.Start.{initial-run}
 use Rattle.rules.specs.Move.{vars-after, target-after, body-run}
+use Rattle.laws.proofs.Bodies.{body-goes}
 use Rattle.record.proofs.Bytes.{past, spelled}
 
--- target 0 leaves a body, however many records may still be run
-pub body-leaves : (list : List ℕ) (left : ℕ) (vars : List ℕ) → body-run list left 0 vars ≡ vars
-unfolding body-run
-body-leaves list zero vars = refl
-body-leaves list (suc left) vars = refl
-
--- at any other place its record is run
-pub body-goes :
-    (list : List ℕ) (left place : ℕ) (vars : List ℕ) → (place ≡ 0 → ⊥) →
-    body-run list (suc left) place vars
-    ≡ body-run list left (target-after vars (list-record-at list place)) (vars-after vars (list-record-at list place .own))
-unfolding body-run
-body-goes list left place vars n = rw (ne-eqb place 0 n, body-run)
-
--- the same with what the calls of a turn answer
+-- a record of a body is run, with what the calls of a turn answer
 pub body-turn :
     (list : List ℕ) (left place : ℕ) (vars : List ℕ) {more target : ℕ} {after : List ℕ} {e : ListRecord} →
     more ≡ suc left → (place ≡ 0 → ⊥) → e ≡ list-record-at list place →

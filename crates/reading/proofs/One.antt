@@ -1,6 +1,8 @@
 -- An accepted file has one reading. Assumes nothing.
 use mathlib.Core.Path.{_≡_, sym, ap, _∙_}
 use mathlib.Core.List.{List, tail}
+use lib.Dec.{eqb}
+use Rattle.rules.specs.Names.{STATION}
 use Prim.Native.Nat.{ℕ}
 use native.Mathlib.Omega.{arith}
 use lib.ListN.{length}
@@ -8,11 +10,12 @@ use Rattle.rules.specs.Records.{Record, records, record-at, record-count}
 use Rattle.rules.specs.Shape.{well-shaped}
 use Rattle.rules.specs.Check.{station-count}
 use Rattle.rules.specs.Trees.{Statements, stations-of, initial-part, parts-of, leading-sets}
+use Rattle.laws.proofs.Counts.{tally-values}
 use Rattle.reading.specs.Reading.{flat-file, Sets, Stations}
 use Rattle.reading.specs.Accepted.{Accepted, Reads}
 use Rattle.reading.proofs.Whole.{Whole, whole}
 use Rattle.reading.proofs.Back.{back-file, leading-file}
-use Rattle.reading.proofs.Counted.{tally-in, counted, stations-in}
+use Rattle.reading.proofs.Counted.{counted, stations-in}
 use Rattle.reading.proofs.Passed.{file-bare, kinds-values}
 
 module _ (file : List ℕ) where
@@ -34,7 +37,7 @@ module _ (file : List ℕ) where
   unfolding stations-of station-count
   stations-counted e =
       let w = whole-file e in
-      sym (counted (w .sets) (w .stations)) ∙ ap stations-in (w .same) ∙ sym (tally-in (record-at file) (record-count file))
+      sym (counted (w .sets) (w .stations)) ∙ ap stations-in (w .same) ∙ sym (tally-values (λ (r : Record). eqb (r .kind) STATION) (record-at file) (record-count file))
 
   -- and its initial part and stations are a reading of it
   pub reading-is : Accepted file → Reads file

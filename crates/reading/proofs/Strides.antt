@@ -72,23 +72,23 @@ nested-closes k [] e = rw e refl
 nested-closes k (p ∷ ps) n = by-test (eqb k STATION) (λ e. rw e) (λ e. rw e (n .0))
 
 -- the walk is past the initial part
-abbrev pub Inside : Stand → Type 0
-Inside initial = ⊥
-Inside (within p ps) = Nested (p .closed-by) ps
-Inside wrong = Unit {0}
+abbrev pub InPart : Stand → Type 0
+InPart initial = ⊥
+InPart (within p ps) = Nested (p .closed-by) ps
+InPart wrong = Unit {0}
 
-inside-close : (k : ℕ) (b : Bool) (ps : List Part) → Nested k ps → Inside (close k b ps)
+inside-close : (k : ℕ) (b : Bool) (ps : List Part) → Nested k ps → InPart (close k b ps)
 inside-close k b [] e = rw e refl
 inside-close k b (p ∷ ps) n =
-    closing (λ k. closes-inner k ≡ true → Inside (close k b (p ∷ ps)))
+    closing (λ k. closes-inner k ≡ true → InPart (close k b (p ∷ ps)))
     (λ e. absurd (false≢true e)) (λ e. (refl, n .1)) (λ e. n .1) (λ e. n .1) (λ e. n .1) k (nested-closes k (p ∷ ps) n) (n .0)
 
-pub inside-stride : (s : Stand) (k : ℕ) → Inside s → Inside (stride s k)
+pub inside-stride : (s : Stand) (k : ℕ) → InPart s → InPart (stride s k)
 unfolding stride
 inside-stride initial k n = absurd n
 inside-stride (within p ps) k n = go (strides p ps k (nested-closes _ ps n))
   where
-    go : Stride p ps k → Inside (stride (within p ps) k)
+    go : Stride p ps k → InPart (stride (within p ps) k)
     go (by-skip e t) = rw t n
     go (by-set e t) = rw t n
     go (by-if e t) = rw t (refl, n)

@@ -9,11 +9,11 @@ use Rattle.rules.specs.Words.{among}
 use Rattle.rules.specs.Names.{STATION, SKIP, SET, IF, ELSE, FI, WHILE, OD, AWAIT, END}
 use Rattle.rules.specs.Records.{Record}
 use Rattle.rules.specs.Shape.{Part, opened, grown, Stand, initial, within, wrong, close, stride, finished, walked}
-use Rattle.rules.specs.Trees.{Statements, nothing, skip, assign, branch, loop, await, before, round-one, round-two, taken, parts-of}
+use Rattle.rules.specs.Trees.{Statements, nothing, skip, assign, branch, loop, await, before, round-one, round-two, read-on, parts-of}
 use Rattle.rules.specs.Build.{bare}
 use Rattle.reading.specs.Reading.{flat, Some, Proper, end, skips, assigns, branches, loops, awaits}
 use Rattle.reading.proofs.Strides.{Stride, by-skip, by-set, by-if, by-while, by-await, by-close, by-fault, strides}
-use Rattle.reading.proofs.Strides.{closing, Closed, nested-closes, Inside, inside-stride}
+use Rattle.reading.proofs.Strides.{closing, Closed, nested-closes, InPart, inside-stride}
 
 -- "STATION, SKIP, ELSE, FI, OD, END": all zero
 abbrev pub zero-kind : ℕ → Bool
@@ -112,7 +112,7 @@ round-two-is put e = rw e
 
 -- one record more, before those that are read
 module _ (p : Part) (ps : List Part) (r : Record) (rs : List Record) (all : List Statements) where
-  step-skip : r ≡ bare SKIP 0 → Found all (within (grown p) ps) rs → Found (taken r all) (within p ps) (r ∷ rs)
+  step-skip : r ≡ bare SKIP 0 → Found all (within (grown p) ps) rs → Found (read-on r all) (within p ps) (r ∷ rs)
   unfolding flat
   step-skip e f =
       record {
@@ -122,7 +122,7 @@ module _ (p : Part) (ps : List Part) (r : Record) (rs : List Record) (all : List
         read = rw e (put p ps skip (bare SKIP 0 ∷ []) (λ x. refl) (λ x. skips) (λ x. tt) (f .part) (f .parts) rs (f .read));
       }
 
-  step-set : r .kind ≡ SET → Found all (within (grown p) ps) rs → Found (taken r all) (within p ps) (r ∷ rs)
+  step-set : r .kind ≡ SET → Found all (within (grown p) ps) rs → Found (read-on r all) (within p ps) (r ∷ rs)
   unfolding flat
   step-set e f =
       record {
@@ -134,11 +134,11 @@ module _ (p : Part) (ps : List Part) (r : Record) (rs : List Record) (all : List
 
   -- WHILE and AWAIT: the part that they open, and then the rest of this one
   step-one : (statement : Statements → Statements → Statements) (c : ℕ) (b : Bool)
-      → taken r all ≡ round-one statement all
+      → read-on r all ≡ round-one statement all
       → ((x y : Statements) → flat (statement x y) ≡ r ∷ (flat x ++ (bare c 0 ∷ flat y)))
       → ((x y : Statements) → Some x → Proper b x → Proper (p .in-body) y → Proper (p .in-body) (statement x y))
       → ((x y : Statements) → Some (statement x y))
-      → Inner c b all (within (grown p) ps) rs → Found (taken r all) (within p ps) (r ∷ rs)
+      → Inner c b all (within (grown p) ps) rs → Found (read-on r all) (within p ps) (r ∷ rs)
   step-one statement c b takes adds proper some g =
       let x = g .part in
       let h = g .next in
@@ -156,18 +156,18 @@ module _ (p : Part) (ps : List Part) (r : Record) (rs : List Record) (all : List
 
   -- IF: its two parts, and then the rest of this one
   step-if : r .kind ≡ IF → Found all (within (opened ELSE (p .in-body)) (grown p ∷ ps)) rs
-      → Found (taken r all) (within p ps) (r ∷ rs)
+      → Found (read-on r all) (within p ps) (r ∷ rs)
   unfolding flat
   step-if e f = go (inner ELSE (p .in-body) (grown p) ps all rs f)
     where
       next : (g : Inner ELSE (p .in-body) all (within (opened FI (p .in-body)) (grown p ∷ ps)) rs)
-          → Inner FI (p .in-body) (g .parts) (within (grown p) ps) (g .rest) → Found (taken r all) (within p ps) (r ∷ rs)
+          → Inner FI (p .in-body) (g .parts) (within (grown p) ps) (g .rest) → Found (read-on r all) (within p ps) (r ∷ rs)
       next g h =
           let x = g .part in
           let y = h .part in
           let f = h .next in
           let own : List Record = r ∷ (flat x ++ (bare ELSE 0 ∷ (flat y ++ (bare FI 0 ∷ [])))) in
-          let takes : taken r all ≡ round-two (branch r) all = rw e in
+          let takes : read-on r all ≡ round-two (branch r) all = rw e in
           record {
             part = branch r x y (f .part);
             parts = f .parts;
@@ -183,28 +183,28 @@ module _ (p : Part) (ps : List Part) (r : Record) (rs : List Record) (all : List
           }
 
       go : Inner ELSE (p .in-body) all (within (opened FI (p .in-body)) (grown p ∷ ps)) rs
-          → Found (taken r all) (within p ps) (r ∷ rs)
+          → Found (read-on r all) (within p ps) (r ∷ rs)
       go g = next g (inner FI (p .in-body) (grown p) ps (g .parts) (g .rest) (g .next))
 
   step-while : r .kind ≡ WHILE → p .in-body ≡ false → Found all (within (opened OD false) (grown p ∷ ps)) rs
-      → Found (taken r all) (within p ps) (r ∷ rs)
+      → Found (read-on r all) (within p ps) (r ∷ rs)
   unfolding flat
   step-while e o f =
       step-one (loop r) OD false (rw e) (λ x y. refl) (λ x y s t. rw o (loops e s t)) (λ x y. tt)
       (inner OD false (grown p) ps all rs f)
 
   step-await : r .kind ≡ AWAIT → p .in-body ≡ false → Found all (within (opened END true) (grown p ∷ ps)) rs
-      → Found (taken r all) (within p ps) (r ∷ rs)
+      → Found (read-on r all) (within p ps) (r ∷ rs)
   unfolding flat
   step-await e o f =
       step-one (await r) END true (rw e) (λ x y. refl) (λ x y s t. rw o (awaits e s t)) (λ x y. tt)
       (inner END true (grown p) ps all rs f)
 
   step-close : Closed p → r ≡ bare (p .closed-by) 0 → p .begun ≡ true → Found all (close (p .closed-by) (p .in-body) ps) rs
-      → Found (taken r all) (within p ps) (r ∷ rs)
+      → Found (read-on r all) (within p ps) (r ∷ rs)
   unfolding flat
   step-close c e d f =
-      let takes = closing (λ k. taken (bare k 0) all ≡ nothing ∷ all) refl refl refl refl refl (p .closed-by) c in
+      let takes = closing (λ k. read-on (bare k 0) all ≡ nothing ∷ all) refl refl refl refl refl (p .closed-by) c in
       record {
         part = nothing;
         parts = f .part ∷ f .parts;
@@ -219,7 +219,7 @@ not-wrong all rs f = go (f .parts) (f .read)
     go [] h = h
     go (x ∷ xs) h = h
 
-step : (s : Stand) (r : Record) (rs : List Record) → Inside s → Bare r → Found (parts-of rs) (stride s (r .kind)) rs
+step : (s : Stand) (r : Record) (rs : List Record) → InPart s → Bare r → Found (parts-of rs) (stride s (r .kind)) rs
     → Found (parts-of (r ∷ rs)) s (r ∷ rs)
 unfolding stride parts-of
 step initial r rs c plain f = absurd c
@@ -228,7 +228,7 @@ step (within p ps) r rs c plain f = go (strides p ps (r .kind) closed)
     closed : Closed p
     closed = nested-closes _ ps c
 
-    go : Stride p ps (r .kind) → Found (taken r (parts-of rs)) (within p ps) (r ∷ rs)
+    go : Stride p ps (r .kind) → Found (read-on r (parts-of rs)) (within p ps) (r ∷ rs)
     go (by-skip e t) = step-skip p ps r rs (parts-of rs) (plain (rw e refl) ∙ ap (λ (k : ℕ). bare k 0) e) (rw t at f)
     go (by-set e t) = step-set p ps r rs (parts-of rs) e (rw t at f)
     go (by-if e t) = step-if p ps r rs (parts-of rs) e (rw t at f)
@@ -240,7 +240,7 @@ step (within p ps) r rs c plain f = go (strides p ps (r .kind) closed)
     go (by-fault t) = absurd (not-wrong (parts-of rs) rs (rw t at f))
 step wrong r rs c plain f = absurd (not-wrong (parts-of rs) rs f)
 
-pub read : (rs : List Record) (s : Stand) → Inside s → All-bare rs → finished (walked s (kinds-of rs)) ≡ true
+pub read : (rs : List Record) (s : Stand) → InPart s → All-bare rs → finished (walked s (kinds-of rs)) ≡ true
     → Found (parts-of rs) s rs
 unfolding walked parts-of flat
 read [] initial c a e = absurd c

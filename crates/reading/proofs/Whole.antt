@@ -10,7 +10,7 @@ use borrow.Author.Tests.{eqb-true}
 use Rattle.rules.specs.Names.{STATION, SET}
 use Rattle.rules.specs.Records.{Record}
 use Rattle.rules.specs.Shape.{opened, Stand, initial, within, wrong, stride, finished, walked}
-use Rattle.rules.specs.Trees.{Statements, taken, parts-of, leading-sets}
+use Rattle.rules.specs.Trees.{Statements, read-on, parts-of, leading-sets}
 use Rattle.rules.specs.Build.{bare}
 use Rattle.laws.proofs.Choice.{by-test}
 use Rattle.reading.specs.Reading.{flat, flat-stations, flat-file, Stations, no-stations, a-station, Sets, no-sets, a-set}
@@ -28,7 +28,7 @@ read-stations x (y ∷ ys) rs h =
     )
 
 -- a SET before the first STATION changes nothing after it
-pub tail-set : (r : Record) (all : List Statements) → r .kind ≡ SET → tail (taken r all) ≡ tail all
+pub tail-set : (r : Record) (all : List Statements) → r .kind ≡ SET → tail (read-on r all) ≡ tail all
 tail-set r [] e = rw e
 tail-set r (x ∷ xs) e = rw e
 

@@ -110,6 +110,10 @@ max-list = 1032
 abbrev pub max-steps : ℕ
 max-steps = 4096
 
--- the station byte of the list's initial part; in the trace's picks, with reset 0: undo
+-- the station byte of the list's initial part
 abbrev pub no-station : ℕ
 no-station = 255
+
+-- the station byte of a pick that is an undo, with reset 0, in the trace
+abbrev pub undo-station : ℕ
+undo-station = 255

@@ -6,7 +6,7 @@ use lib.Dec.{eqb, ltb}
 use lib.ListN.{length, take, replicate}
 use lib.IntN.{ℤ, pos, negsuc}
 use Rattle.rules.specs.Words.{if_then_else_}
-use Rattle.rules.specs.Names.{LENGTH, RESET, max-list, max-stations, max-steps, no-station}
+use Rattle.rules.specs.Names.{LENGTH, RESET, max-list, max-stations, max-steps, undo-station}
 use Rattle.rules.specs.Records.{Pick, pick-at}
 use Rattle.rules.specs.Build.{build}
 use Rattle.rules.specs.State.{State, priority}
@@ -47,7 +47,7 @@ end-line number = (101 ∷ 110 ∷ 100 ∷ 32 ∷ []) ++ decimal number ++ (10 �
 -- "Pick (255,0) means undo"
 unfoldable pub taken-pick : List ℕ → State → List ℕ → Pick → Stepped
 taken-pick list s log p =
-    if eqb (p .station) no-station && eqb (p .reset) 0
+    if eqb (p .station) undo-station && eqb (p .reset) 0
     then record { number = undo list s log .number; state = undo list s log .state; log = log }
     else step list s log p
 

@@ -30,8 +30,8 @@ round-two put (x ∷ parts) = round-one (put x) parts
 
 -- "The records between an opening record and its close are read as a part of their own". Files are read from the last record to the
 -- first, so that a close, an ELSE or a STATION begins a part, and an opening record takes its parts and puts itself before the rest
-abbrev pub taken : Record → List Statements → List Statements
-taken r parts =
+abbrev pub read-on : Record → List Statements → List Statements
+read-on r parts =
     if eqb (r .kind) SKIP then before skip parts
     else if eqb (r .kind) SET then before (assign r) parts
     else if eqb (r .kind) IF then round-two (branch r) parts
@@ -41,7 +41,7 @@ taken r parts =
 
 unfoldable pub parts-of : List Record → List Statements
 parts-of [] = nothing ∷ []
-parts-of (r ∷ rs) = taken r (parts-of rs)
+parts-of (r ∷ rs) = read-on r (parts-of rs)
 
 -- what stands before the first STATION is the initial part, and the other parts are the stations in file order
 unfoldable pub stations-of : List ℕ → List Statements

@@ -1,6 +1,6 @@
 -- One byte more than a file may have decides as much as the whole of it. Assumes nothing.
 use mathlib.Core.Path.{_≡_, refl, sym, _∙_, ap}
-use mathlib.Core.Bool.{Bool, true, false, not, _||_}
+use mathlib.Core.Bool.{true, not, _||_, or-true}
 use mathlib.Core.List.{List, [], _∷_, _++_}
 use Prim.Native.Nat.{ℕ, _+_, _*_, _%_, _≤_, _<_}
 use native.Mathlib.Omega.{arith}
@@ -30,13 +30,9 @@ by-front f other most file long =
     let whole = length-take-le most file (omega arith) in
     long (take most file) (omega arith) ∙ sym (long file (omega arith)))
 
-either : (b : Bool) → (b || true) ≡ true
-either true = refl
-either false = refl
-
 -- picks
 wrong-long : (picks : List ℕ) → enough ≤ length picks → wrong-picks picks ≡ true
-wrong-long picks long = rw (lt-ltb 8192 (length picks) (omega arith)) (either (eqb (length picks % 2) 1))
+wrong-long picks long = rw (lt-ltb 8192 (length picks) (omega arith)) (or-true (eqb (length picks % 2) 1))
 
 run-front : (list picks : List ℕ) (s : State) (log : List ℕ) → run-text list (take enough picks) s log ≡ run-text list picks s log
 unfolding run-text
@@ -79,7 +75,7 @@ start-front list (b ∷ resets) picks = started-front list b resets picks (repli
 -- a program
 wrong-program : (program : List ℕ) → enough ≤ length program → wrong-length program ≡ true
 unfolding wrong-length
-wrong-program program long = rw (lt-ltb 8192 (length program) (omega arith)) (either (not (eqb (length program % 8) 0) || eqb (length program) 0))
+wrong-program program long = rw (lt-ltb 8192 (length program) (omega arith)) (or-true (not (eqb (length program % 8) 0) || eqb (length program) 0))
 
 build-long : (program buffer : List ℕ) → enough ≤ length program → build program buffer .number ≡ LENGTH
 unfolding build judge

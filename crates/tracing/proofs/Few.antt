@@ -4,7 +4,7 @@ use mathlib.Core.Bool.{_&&_}
 use mathlib.Core.List.{List}
 use Prim.Native.Nat.{ℕ, _≤_}
 use lib.Dec.{eqb}
-use Rattle.rules.specs.Names.{max-stations, no-station}
+use Rattle.rules.specs.Names.{max-stations, undo-station}
 use Rattle.rules.specs.Records.{Pick}
 use Rattle.rules.specs.State.{State}
 use Rattle.rules.specs.Start.{start}
@@ -37,4 +37,4 @@ pub few-taken : (list : List ℕ) (s : State) (log : List ℕ) (p : Pick) → ta
     → taken-pick list s log p .state .n ≤ max-stations
 unfolding taken-pick
 few-taken list s log p =
-    by-test (eqb (p .station) no-station && eqb (p .reset) 0) (λ yes. rw yes (few-undone list s log)) (λ no. rw no (few-stepped list s log p))
+    by-test (eqb (p .station) undo-station && eqb (p .reset) 0) (λ yes. rw yes (few-undone list s log)) (λ no. rw no (few-stepped list s log p))

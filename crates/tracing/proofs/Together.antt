@@ -18,7 +18,7 @@ use Rattle.rules.specs.Trace.{end-line, line, taken-pick, picks-text, wrong-pic
 use Rattle.laws.proofs.Choice.{by-test}
 use Rattle.tracing.specs.Line.{line-of}
 use Rattle.tracing.specs.Tracing.{Tracing, Piece, Opened, pick-piece, piece, still, printed, left, all-printed, ending, opened, opened-built, opened-by, opened-list}
-use Rattle.tracing.specs.Claims.{PieceFirst, begun, Traced}
+use Rattle.tracing.specs.Claims.{PieceFirst, fresh-opened, Traced}
 use Rattle.tracing.specs.declared.Next.{Next}
 use Rattle.tracing.specs.declared.Next.the-variants.{Start, Pick, End, Nothing}
 use Rattle.tracing.proofs.Few.{few-taken, few-started}
@@ -173,7 +173,7 @@ built-says a starts picks =
     (λ yes. rw yes (listed-says (a .count) (a .buffer) starts picks))
     (λ no. rw no (ending-says (a .buffer) picks _ (a .number)))
 
-begun-says : (program starts picks : List ℕ) → still-from picks (begun program starts) ≡ trace program starts picks
+begun-says : (program starts picks : List ℕ) → still-from picks (fresh-opened program starts) ≡ trace program starts picks
 unfolding opened trace
 begun-says program starts picks = built-says (build program (replicate (16 * max-list) 0)) starts picks
 
@@ -192,6 +192,6 @@ opened-left program starts picks list log =
 
 pub traced : Traced
 traced program starts picks turns many =
-    let o = begun program starts in
+    let o = fresh-opened program starts in
     together turns (o .list) picks (o .log) (o .tracing) (omega (arith, opened-left program starts picks (replicate (16 * max-list) 0) (replicate (2 * (max-stations + max-steps)) 0)))
     ∙ begun-says program starts picks

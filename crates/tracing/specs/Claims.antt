@@ -15,14 +15,14 @@ PieceFirst =
     → let p = piece list picks log t in still list picks log t ≡ p .text ++ still list picks (p .log) (p .tracing)
 
 -- where the trace of two files begins, in buffers that are never short
-abbrev pub begun : List ℕ → List ℕ → Opened
-begun program starts = opened program starts (replicate (16 * max-list) 0) (replicate (2 * (max-stations + max-steps)) 0)
+abbrev pub fresh-opened : List ℕ → List ℕ → Opened
+fresh-opened program starts = opened program starts (replicate (16 * max-list) 0) (replicate (2 * (max-stations + max-steps)) 0)
 
 -- the pieces put together, with two turns more than there are picks, are the rules' trace
 abbrev pub Traced : Type 0
 Traced =
     (program starts picks : List ℕ) (turns : ℕ) → 2 + length picks / 2 ≤ turns
-    → let o = begun program starts in printed turns (o .list) picks (o .log) (o .tracing) ≡ trace program starts picks
+    → let o = fresh-opened program starts in printed turns (o .list) picks (o .log) (o .tracing) ≡ trace program starts picks
 
 -- so many bytes of a program or a picks file, and of a start file, are enough: one more than either may have
 abbrev pub enough : ℕ

@@ -6,7 +6,8 @@ use Prim.Native.Nat.{_-_, _^_, _<_}
 use native.Mathlib.Omega.{arith}
 use Rattle.rules.specs.Records.{list-count}
 use Rattle.rules.specs.Move.{body-run}
-use Rattle.moves.proofs.Turns.{body-leaves, body-turn}
+use Rattle.laws.proofs.Bodies.{body-leaves}
+use Rattle.moves.proofs.Turns.{body-turn}
 use borrow.Author.Needs.{needs}
 use Rattle.moves.proofs.body_run.Statement.{statement}
 use Rattle.moves.proofs.body_run.Tie as tie

@@ -1,7 +1,7 @@
 -- `tracing::taking::taken` meets its contract: only (255, 0) is an undo. Assumes nothing.
 use Rattle.laws.proofs.Choice.{both, not-both-left, not-both-right}
 use Rattle.rules.specs.Trace.{taken-pick}
-use Rattle.rules.specs.Names.{no-station}
+use Rattle.rules.specs.Names.{undo-station}
 use borrow.Author.Tests.{eq-eqb, ne-eqb}
 use lib.Dec.{eqb}
 use mathlib.Core.Bool.{true, false, _&&_}
@@ -22,8 +22,8 @@ unfolding taken-pick
 returns c =
     let back = c .before .before in
     let a = back .before .before .before .before .args in
-    let yes : (eqb (a .station) no-station && eqb (a .reset) 0) ≡ true =
-    both (eq-eqb (a .station) no-station (back .before .if1 .taken)) (eq-eqb (a .reset) 0 (back .if2 .taken))
+    let yes : (eqb (a .station) undo-station && eqb (a .reset) 0) ≡ true =
+    both (eq-eqb (a .station) undo-station (back .before .if1 .taken)) (eq-eqb (a .reset) 0 (back .if2 .taken))
     in
     rw (yes, ← c .undo .ensures)
 
@@ -38,8 +38,8 @@ unfolding taken-pick
 returns-2 c =
     let joined = c .before .before .before .before in
     let a = joined .before .before .before .args in
-    let no : (eqb (a .station) no-station && eqb (a .reset) 0) ≡ false =
-    ⊎-elim (λ w. not-both-right (eqb (a .station) no-station) _ (ne-eqb _ _ (w .1 .left))) (λ w. not-both-left _ (eqb (a .reset) 0) (ne-eqb _ _ (w .left))) (joined .if1 .came)
+    let no : (eqb (a .station) undo-station && eqb (a .reset) 0) ≡ false =
+    ⊎-elim (λ w. not-both-right (eqb (a .station) undo-station) _ (ne-eqb _ _ (w .1 .left))) (λ w. not-both-left _ (eqb (a .reset) 0) (ne-eqb _ _ (w .left))) (joined .if1 .came)
     in
     rw no (c .before .before .step .ensures)
 
