@@ -47,11 +47,11 @@ impl State {
                 steps: 0,
             };
         }
-        self.steps(list, log, picks, least(most, picks.len() / 2))
+        self.single_steps(list, log, picks, least(most, picks.len() / 2))
     }
 
     // So many steps, by the first of the picks, on a list and a state that are sound.
-    fn steps(self, list: &[u8], log: &mut [u8], picks: &[u8], count: usize) -> Ran
+    fn single_steps(self, list: &[u8], log: &mut [u8], picks: &[u8], count: usize) -> Ran
         requires { ⌜ Known (now list) (as-state self) × (2 * count ≤ length (now picks)) ⌝ }
         ensures { λ r. ⌜ as-ran r (now (log .exit)) ≡ steps-from (now (list .entry)) (now (picks .entry)) 0 count (as-state self) (now (log .entry)) ⌝ }
     {
@@ -59,7 +59,7 @@ impl State {
         let mut steps: usize = 0;
         while steps < count {
             let at = 2 * steps;
-            let taken = state.advance(list, log, picks[at], picks[at + 1]);
+            let taken = state.sound_step(list, log, picks[at], picks[at + 1]);
             state = taken.state;
             if taken.number != 0 {
                 return Ran {

@@ -33,11 +33,11 @@ impl State {
                 state: self,
             };
         }
-        self.advance(list, log, station, reset)
+        self.sound_step(list, log, station, reset)
     }
 
     // One step, on a list and a state that are sound.
-    pub(crate) fn advance(self, list: &[u8], log: &mut [u8], station: u8, reset: u8) -> Outcome
+    pub(crate) fn sound_step(self, list: &[u8], log: &mut [u8], station: u8, reset: u8) -> Outcome
         requires { ⌜ Known (now list) (as-state self) ⌝ }
         ensures { λ r. ⌜ StepPromise (now (list .entry)) (as-state self) (now (log .entry)) (record { station = station; reset = reset }) r (now (log .exit)) ⌝ }
     {

@@ -41,8 +41,8 @@ returns-3 c =
 least-requires : tie.Need-least-requires
 least-requires c κs = search needs
 
-steps-requires : tie.Need-steps-requires
-steps-requires c κs =
+single-steps-requires : tie.Need-single-steps-requires
+single-steps-requires c κs =
     let stated = c .before .before in
     let listed = stated .before .before in
     let a = listed .before .before .before .before .before .before .args in (
@@ -67,7 +67,7 @@ returns-4 c =
       sym (listed .before .sound .ensures) ∙ not-false _ (listed .if2 .left),
       sym (stated .before .sound2 .ensures) ∙ not-false _ (stated .if3 .left),
     )
-    (rw (done .before .least .ensures) at (done .steps .ensures))
+    (rw (done .before .least .ensures) at (done .single-steps .ensures))
 
 pub run-spec : {M : Type 1} → statement M
 run-spec =
@@ -79,6 +79,6 @@ run-spec =
     sound-requires-2
     returns-3
     least-requires
-    steps-requires
+    single-steps-requires
     same-length
     returns-4)

@@ -24,8 +24,8 @@ returns-2 c =
     let listed = c .before .before in
     rw (sym (listed .before .sound .ensures) ∙ not-false _ (listed .if1 .left), sym (c .before .sound2 .ensures) ∙ not-true _ (c .if2 .taken))
 
-advance-requires : tie.Need-advance-requires
-advance-requires c κs =
+sound-step-requires : tie.Need-sound-step-requires
+sound-step-requires c κs =
     let stated = c .before in
     let listed = stated .before .before in
     record {
@@ -47,6 +47,6 @@ step-spec =
     returns
     sound-requires-2
     returns-2
-    advance-requires
+    sound-step-requires
     same-length
     returns-3)

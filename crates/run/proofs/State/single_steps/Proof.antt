@@ -11,10 +11,10 @@ use Rattle.rules.specs.Run.{steps-from}
 use Rattle.fair.proofs.Kept.{step-sound}
 use Rattle.run.specs.View.{as-state}
 use Rattle.run.proofs.Runs.{counted, counted-none, run-ended, run-taken, run-refused}
-use Rattle.run.proofs.State.steps.Statement.{statement}
-use Rattle.run.proofs.State.steps.Tie as tie
+use Rattle.run.proofs.State.single_steps.Statement.{statement}
+use Rattle.run.proofs.State.single_steps.Tie as tie
 
--- `run::State::steps` meets its contract. The loop's invariant: the state is sound, the log has kept its length, and the steps to come,
+-- `run::State::single_steps` meets its contract. The loop's invariant: the state is sound, the log has kept its length, and the steps to come,
 -- counted on from those taken, answer what the whole does. The measure is what is left of the count.
 -- Assumes nothing.
 
@@ -37,17 +37,17 @@ loop-holds c =
 mul-at : tie.Need-mul-at Inv-loop μ-loop
 mul-at c = search needs
 
-shared-slice-read-advance : tie.Need-shared-slice-read-advance Inv-loop μ-loop
-shared-slice-read-advance c = search needs
+shared-slice-read-sound-step : tie.Need-shared-slice-read-sound-step Inv-loop μ-loop
+shared-slice-read-sound-step c = search needs
 
-add-advance : tie.Need-add-advance Inv-loop μ-loop
-add-advance c = search needs
+add-sound-step : tie.Need-add-sound-step Inv-loop μ-loop
+add-sound-step c = search needs
 
-shared-slice-read-advance-2 : tie.Need-shared-slice-read-advance-2 Inv-loop μ-loop
-shared-slice-read-advance-2 c = search needs
+shared-slice-read-sound-step-2 : tie.Need-shared-slice-read-sound-step-2 Inv-loop μ-loop
+shared-slice-read-sound-step-2 c = search needs
 
-advance-requires : tie.Need-advance-requires Inv-loop μ-loop
-advance-requires c κs =
+sound-step-requires : tie.Need-sound-step-requires Inv-loop μ-loop
+sound-step-requires c κs =
     let at = c .before .before .before .before in
     record { of-list = at .before .before .before .before .pre .0 .of-list; of-state = at .loop .inv .2 }
 
@@ -61,8 +61,8 @@ returns c =
     let a = turn .before .before .before .before .before .args in
     let at = turn .before .loop in
     sym (at .inv .3
-    ∙ rw (← done .advance .ensures) at (run-refused (a .list .now) (a .picks .now) (a .count) (at .steps) (as-state (at .state)) (at .log)
-    (turn .loop-test .taken) (λ e. c .if1 .taken (ap (λ (a : Stepped). a .number) (done .advance .ensures) ∙ e))))
+    ∙ rw (← done .sound-step .ensures) at (run-refused (a .list .now) (a .picks .now) (a .count) (at .steps) (as-state (at .state)) (at .log)
+    (turn .loop-test .taken) (λ e. c .if1 .taken (ap (λ (a : Stepped). a .number) (done .sound-step .ensures) ∙ e))))
 
 add-steps : tie.Need-add-steps Inv-loop μ-loop
 add-steps c = search needs
@@ -76,12 +76,12 @@ loop-again c =
     let turn = done .before .before .before .before in
     let a = turn .before .before .before .before .before .args in
     let at = turn .before .loop in
-    let taken = sym (ap (λ (a : Stepped). a .number) (done .advance .ensures)) ∙ c .if1 .left in (
+    let taken = sym (ap (λ (a : Stepped). a .number) (done .sound-step .ensures)) ∙ c .if1 .left in (
       search needs,
-      done .advance .kept .1 .1 .0 ∙ at .inv .1,
-      rw (← done .advance .ensures) at (step-sound (a .list .now) (as-state (at .state)) (at .log) (pick-at (a .picks .now) (at .steps)) (at .inv .2)),
+      done .sound-step .kept .1 .1 .0 ∙ at .inv .1,
+      rw (← done .sound-step .ensures) at (step-sound (a .list .now) (as-state (at .state)) (at .log) (pick-at (a .picks .now) (at .steps)) (at .inv .2)),
       at .inv .3
-          ∙ rw (← done .advance .ensures) at (run-taken (a .list .now) (a .picks .now) (a .count) (at .steps) (as-state (at .state)) (at .log)
+          ∙ rw (← done .sound-step .ensures) at (run-taken (a .list .now) (a .picks .now) (a .count) (at .steps) (as-state (at .state)) (at .log)
           (turn .loop-test .taken) taken),
     )
 
@@ -94,18 +94,18 @@ returns-2 c =
     let e : c .before .loop .steps ≡ c .before .before .before .before .before .args .count = omega arith in
     rw (inv .3, e) (sym (run-ended _ _ _ _ _))
 
-pub steps-spec : {M : Type 1} → statement M
-steps-spec =
+pub single-steps-spec : {M : Type 1} → statement M
+single-steps-spec =
     tie.close
     (tie.spec
     Inv-loop
     μ-loop
     loop-holds
     mul-at
-    shared-slice-read-advance
-    add-advance
-    shared-slice-read-advance-2
-    advance-requires
+    shared-slice-read-sound-step
+    add-sound-step
+    shared-slice-read-sound-step-2
+    sound-step-requires
     same-length
     returns
     add-steps

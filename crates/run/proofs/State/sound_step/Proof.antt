@@ -13,10 +13,10 @@ use Rattle.laws.proofs.Answers.{step-picked}
 use Rattle.run.specs.View.{as-state}
 use Rattle.run.proofs.Picks.{few-steps}
 use Rattle.run.proofs.Written.{written-record}
-use Rattle.run.proofs.State.advance.Statement.{statement}
-use Rattle.run.proofs.State.advance.Tie as tie
+use Rattle.run.proofs.State.sound_step.Statement.{statement}
+use Rattle.run.proofs.State.sound_step.Tie as tie
 
--- `run::State::advance` meets its contract: past FULL and ROOM a step is its pick, and the pick's record in the log.
+-- `run::State::sound_step` meets its contract: past FULL and ROOM a step is its pick, and the pick's record in the log.
 -- Assumes nothing.
 
 returns : tie.Need-returns
@@ -108,8 +108,8 @@ returns-4 c =
       written-record _ _ _ _ (c .before .before .before .if2 .left),
     )
 
-pub advance-spec : {M : Type 1} → statement M
-advance-spec =
+pub sound-step-spec : {M : Type 1} → statement M
+sound-step-spec =
     tie.close
     (tie.spec
     returns
