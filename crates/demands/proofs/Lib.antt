@@ -7,6 +7,3 @@ pub mod Lights
 pub mod Whole
 pub mod Unrefused
 pub mod Only
-pub mod Waiting
-pub mod Frauds
-pub mod Witness

@@ -6,5 +6,3 @@ pub mod Written
 pub mod Lights
 pub mod Demands
 pub mod Only
-pub mod Frauds
-pub mod Witness

@@ -27,7 +27,7 @@ use Rattle.rules.specs.History.{Call, CHECK, BUILD, START, STEP, RUN, UNDO, LIG
 use Rattle.reading.specs.Accepted.{Accepted}
 use Rattle.reading.proofs.Passed.{accepted-is}
 use Rattle.built.specs.Built.{built}
-use Rattle.demands.specs.Frauds.{charging, WaitingBreaks, idle, IdleBounds}
+use Rattle.frauds.specs.Frauds.{charging, WaitingBreaks, idle, IdleBounds}
 
 -- STATION; WHILE v0 = v0; SET v0 := v0+1; OD; STATION; AWAIT v0 = 1; SKIP; END
 abbrev file : List ℕ

@@ -34,13 +34,13 @@ use Rattle.laws.proofs.Choice.{by-test}
 use Rattle.lit.proofs.Shown.{lights-show}
 use Rattle.lit.proofs.Only.{shows-only}
 use Rattle.fair.specs.Sound.{Held}
 use Rattle.demands.specs.Order.{before-steps}
 use Rattle.demands.specs.Runs.{Singles, one-more}
 use Rattle.demands.specs.Lights.{Lit}
 use Rattle.demands.specs.Demands.{Demand2}
-use Rattle.demands.specs.Frauds.{ByDemand2, WithTests}
+use Rattle.frauds.specs.Frauds.{ByDemand2, WithTests}
 use Rattle.demands.proofs.Unrefused.{start-same, step-same, singles-ruled, run-same}
 use Rattle.demands.proofs.Only.{no-other}
 
 -- records with nothing but their kinds
 abbrev plain : List ℕ → List ℕ

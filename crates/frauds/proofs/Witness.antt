@@ -26,8 +26,8 @@ use Rattle.rules.specs.Passed.{passed-over}
 use Rattle.reading.proofs.Passed.{accepted-is}
 use Rattle.laws.proofs.Choice.{by-test}
 use Rattle.laws.proofs.Places.{each-at}
 use Rattle.demands.specs.Demands.{Bytes}
-use Rattle.demands.specs.Witness.{pair, Met}
+use Rattle.frauds.specs.Witness.{pair, Met}
 
 all-bytes : each (λ i. ltb (getD pair i 0) 256) 64 ≡ true
 unfolding each

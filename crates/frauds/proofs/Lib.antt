@@ -1,0 +1,3 @@
+pub mod Frauds
+pub mod Waiting
+pub mod Witness

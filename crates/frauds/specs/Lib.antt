@@ -1,0 +1,2 @@
+pub mod Frauds
+pub mod Witness
