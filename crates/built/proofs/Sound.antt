@@ -13,7 +13,7 @@ use Rattle.rules.specs.Names.{SKIP, INIT, max-list, max-stations, no-station}
 use Rattle.rules.specs.Records.{ListRecord, list-record-at, list-count}
 use Rattle.rules.specs.Fields.{fields-right, rules-of}
 use Rattle.rules.specs.Build.{bare, bytes-of}
-use Rattle.rules.specs.List.{stations, initials, is-at, init-right, initial-right, outside-targets, inside-target, inside-targets, later-right, sound-list}
+use Rattle.rules.specs.List.{stations, initials, initials-after, is-at, init-right, initial-right, outside-targets, inside-target, inside-targets, later-right, sound-list}
 use Rattle.laws.proofs.Choice.{both}
 use Rattle.laws.proofs.Places.{each-all, first-is}
 use Rattle.built.specs.Targets.{blank}
@@ -84,30 +84,33 @@ module _ (es : List ListRecord) (n m : ℕ) (right : Along (Right es n m) 0 es) 
       (rw (at n (omega arith), not-init (omega arith) (right-at n (omega arith))) refl)
       (λ k l. rw (at k (omega arith), init-kind (is-init l (right-at k (omega arith)))) refl)
 
-  pub initials-are : initials list ≡ m
-  unfolding initials
-  initials-are =
+  initials-found : initials-after list n ≡ m
+  unfolding initials-after
+  initials-found =
       let c = count-bytes-of es in
       let s = later-station (is-later (omega arith) (right-at (n + m) more)) in
-      rw stations-are
-      (first-is (λ i. not (eqb (list-record-at list (n + i) .station) no-station)) (list-count list - n) m (omega arith)
+      first-is (λ i. not (eqb (list-record-at list (n + i) .station) no-station)) (list-count list - n) m (omega arith)
       (rw (at (n + m) more, ne-eqb (getD es (n + m) blank .station) no-station (λ e. omega arith)) refl)
-      (λ k l. rw (at (n + k) (omega arith), initial-station (is-initial (omega arith) (omega arith) (right-at (n + k) (omega arith)))) refl))
+      (λ k l. rw (at (n + k) (omega arith), initial-station (is-initial (omega arith) (omega arith) (right-at (n + k) (omega arith)))) refl)
 
-  names-at : {inside station t : ℕ} → Names es n m inside station t → is-at list inside station t ≡ true
+  pub initials-are : initials list ≡ m
+  initials-are = rw stations-are initials-found
+
+  names-at : {inside station t : ℕ} → Names es n m inside station t → is-at list (n + m) inside station t ≡ true
   unfolding is-at
   names-at {inside} {station} {t} h =
       let a : leb (n + m) t ≡ true = le-leb (n + m) t (h .from) in
       let b : ltb t (length es) ≡ true = lt-ltb t (length es) (h .below) in
       let c : eqb inside inside ≡ true = eq-eqb inside inside refl in
       let d : eqb station station ≡ true = eq-eqb station station refl in
-      rw (stations-are, initials-are, count-bytes-of es, at t (h .below), h .inside-is, h .station-is, a, b, c, d)
+      rw (count-bytes-of es, at t (h .below), h .inside-is, h .station-is, a, b, c, d)
 
-  leads-in : {station q t : ℕ} → Leads es n m true station (suc q) t → inside-target list station q t ≡ true
+  leads-in : {station q t : ℕ} → Leads es n m true station (suc q) t → inside-target list (n + m) station q t ≡ true
+  unfolding inside-target
   leads-in {station} {q} {t} (inl e) = rw e
   leads-in {station} {q} {t} (inr h) = rw (lt-ltb q t (h .0), names-at (h .1)) (or-true (eqb t 0))
 
-  init-holds : (j : ℕ) (e : ListRecord) → list-record-at list j ≡ e → Init es n m j e → init-right list j ≡ true
+  init-holds : (j : ℕ) (e : ListRecord) → list-record-at list j ≡ e → Init es n m j e → init-right list (n + m) j ≡ true
   unfolding init-right
   init-holds j e d (opens h) = rw (d, eq-eqb j j refl, names-at h)
 
@@ -115,10 +118,10 @@ module _ (es : List ListRecord) (n m : ℕ) (right : Along (Right es n m) 0 es) 
   unfolding initial-right
   initial-holds p e d (sets k g) = rw (d, g .fields, k)
 
-  numbered : {station : ℕ} → station < n → ltb station (stations list) ≡ true
-  numbered {station} l = rw stations-are (lt-ltb station n l)
+  numbered : {station : ℕ} → station < n → ltb station n ≡ true
+  numbered {station} l = lt-ltb station n l
 
-  later-holds : (p : ℕ) (e : ListRecord) → list-record-at list p ≡ e → Later es n m p e → later-right list p ≡ true
+  later-holds : (p : ℕ) (e : ListRecord) → list-record-at list p ≡ e → Later es n m p e → later-right list n (n + m) p ≡ true
   unfolding later-right outside-targets inside-targets
   later-holds p e d (skip-right false s h) = rw (d, numbered s, skip-fields, names-at h)
   later-holds p e d (skip-right true s h) = rw (d, numbered s, skip-fields, leads-in h)
@@ -135,14 +138,14 @@ module _ (es : List ListRecord) (n m : ℕ) (right : Along (Right es n m) 0 es) 
   sound =
       let l = length-bytes-of es in
       let c = count-bytes-of es in
-      rw (stations-are, initials-are)
+      rw (stations-are, initials-found)
       (both (both (both (both (both (both
       (eq-eqb (length list % 16) 0 (omega arith))
       (le-leb (list-count list) max-list (omega arith)))
       (le-leb 1 n some))
       (le-leb n max-stations few))
-      (each-all (init-right list) n (λ j l. init-holds j _ (at j (omega arith)) (is-init l (right-at j (omega arith))))))
+      (each-all (init-right list (n + m)) n (λ j l. init-holds j _ (at j (omega arith)) (is-init l (right-at j (omega arith))))))
       (each-all (λ i. initial-right list (n + i)) m
       (λ i l. initial-holds (n + i) _ (at (n + i) (omega arith)) (is-initial (omega arith) (omega arith) (right-at (n + i) (omega arith))))))
-      (each-all (λ i. later-right list (n + m + i)) (list-count list - (n + m))
+      (each-all (λ i. later-right list n (n + m) (n + m + i)) (list-count list - (n + m))
       (λ i l. later-holds (n + m + i) _ (at (n + m + i) (omega arith)) (is-later (omega arith) (right-at (n + m + i) (omega arith))))))

@@ -8,7 +8,7 @@ use lib.Dec.{eqb}
 use Rattle.rules.specs.Words.{among}
 use Rattle.rules.specs.Names.{SKIP, SET, IF, WHILE, AWAIT, STOP}
 use Rattle.rules.specs.Records.{ListRecord, list-record-at}
-use Rattle.rules.specs.List.{outside, inside, outside-targets, sound-list}
+use Rattle.rules.specs.List.{later, outside, inside, outside-targets, sound-list}
 use Rattle.rules.specs.Values.{holds}
 use Rattle.rules.specs.Move.{target-after, step-position}
 use Rattle.laws.proofs.Choice.{by-test, both-left, both-right, split}
@@ -32,7 +32,7 @@ target-has P vars e first second =
     (λ t. rw t first)
 
 -- so that whatever an outside record's step leads to is outside, of its station
-step-outside : (list : List ℕ) (p : ℕ) (vars : List ℕ) → outside-targets list p ≡ true
+step-outside : (list : List ℕ) (p : ℕ) (vars : List ℕ) → outside-targets list (later list) p (list-record-at list p) ≡ true
     → eqb (list-record-at list p .own .kind) STOP ≡ false
     → outside list (list-record-at list p .station) (step-position vars (list-record-at list p)) ≡ true
 unfolding outside-targets step-position

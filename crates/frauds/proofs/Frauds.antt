@@ -18,7 +18,7 @@ use Rattle.rules.specs.Shape.{stride, wrong-at, walked, well-shaped, too-deep-a
 use Rattle.rules.specs.Check.{wrong-length, field-place, station-count, depth-place, check}
 use Rattle.rules.specs.Trees.{parts-of, stations-of, leading-sets, initial-part, size}
 use Rattle.rules.specs.Build.{laid, inits, bodies, list-of, bytes-of, Built, build}
-use Rattle.rules.specs.List.{stations, initials, is-at, init-right, initial-right, outside-targets, inside-targets, later-right, sound-list}
+use Rattle.rules.specs.List.{stations, initials-after, is-at, init-right, initial-right, outside-targets, inside-target, inside-targets, later-right, sound-list}
 use Rattle.rules.specs.State.{State, zeros, priority, few-low, empty-at, sound-state}
 use Rattle.rules.specs.Values.{set-value, holds}
 use Rattle.rules.specs.Start.{initial-run, started, start-records, Started, start}
@@ -160,7 +160,7 @@ record Computed : Type 0 where
   two-count : build two-skips (replicate 64 9) .count ≡ 4
 
 computed : Computed
-unfolding each first tally mask values changed written judge record-from list-record-at rules-of fields-right stride wrong-at walked well-shaped too-deep-at check wrong-length field-place station-count depth-place parts-of stations-of leading-sets initial-part size laid inits bodies list-of bytes-of build stations initials is-at init-right initial-right outside-targets inside-targets later-right sound-list few-low empty-at sound-state set-value holds initial-run started start-records start ended waiting ready lowest body-run step-vars step-position charge stepped picked step steps-from run reads writes led-to body some-of touches lights
+unfolding each first tally mask values changed written judge record-from list-record-at rules-of fields-right stride wrong-at walked well-shaped too-deep-at check wrong-length field-place station-count depth-place parts-of stations-of leading-sets initial-part size laid inits bodies list-of bytes-of build stations initials-after is-at init-right initial-right outside-targets inside-target inside-targets later-right sound-list few-low empty-at sound-state set-value holds initial-run started start-records start ended waiting ready lowest body-run step-vars step-position charge stepped picked step steps-from run reads writes led-to body some-of touches lights
 computed =
     record {
       begins = refl;

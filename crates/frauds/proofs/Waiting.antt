@@ -16,7 +16,7 @@ use Rattle.rules.specs.Shape.{stride, wrong-at, walked, well-shaped, too-deep-a
 use Rattle.rules.specs.Check.{wrong-length, field-place, station-count, depth-place, check}
 use Rattle.rules.specs.Trees.{parts-of, stations-of, leading-sets, initial-part, size}
 use Rattle.rules.specs.Build.{laid, inits, bodies, list-of, bytes-of}
-use Rattle.rules.specs.List.{stations, initials, is-at, init-right, initial-right, outside-targets, inside-targets, later-right, sound-list}
+use Rattle.rules.specs.List.{stations, initials-after, is-at, init-right, initial-right, outside-targets, inside-target, inside-targets, later-right, sound-list}
 use Rattle.rules.specs.State.{zeros, priority, few-low, empty-at, sound-state}
 use Rattle.rules.specs.Values.{set-value, holds}
 use Rattle.rules.specs.Start.{initial-run, started, start-records, start}
@@ -55,7 +55,7 @@ record Computed : Type 0 where
   low : tally (λ j. leZ (priority (now .state) j) (negℤ (pos 2))) (stations (built file)) ≡ 1
 
 computed : Computed
-unfolding each first tally values changed written judge record-from list-record-at rules-of fields-right stride wrong-at walked well-shaped too-deep-at check wrong-length field-place station-count depth-place parts-of stations-of leading-sets initial-part size laid inits bodies list-of bytes-of stations initials is-at init-right initial-right outside-targets inside-targets later-right sound-list few-low empty-at sound-state set-value holds initial-run started start-records start ended waiting ready lowest body-run step-vars step-position charge stepped picked step stepped-on called calls-from
+unfolding each first tally values changed written judge record-from list-record-at rules-of fields-right stride wrong-at walked well-shaped too-deep-at check wrong-length field-place station-count depth-place parts-of stations-of leading-sets initial-part size laid inits bodies list-of bytes-of stations initials-after is-at init-right initial-right outside-targets inside-target inside-targets later-right sound-list few-low empty-at sound-state set-value holds initial-run started start-records start ended waiting ready lowest body-run step-vars step-position charge stepped picked step stepped-on called calls-from
 computed = record { accepted = accepted-is file .0 refl; stands = refl; two = refl; low = refl }
 
 pub waiting-breaks : WaitingBreaks

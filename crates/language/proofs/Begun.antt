@@ -69,6 +69,6 @@ module _ (file : List ℕ) (bytes : (i : ℕ) → getD file i 0 < 256) (accepted
             ∙ ap (stands-for file i) (first-position b resets i (omega arith))
             ∙ init-whole i (omega arith)
             ∙ sym (List·getD-map program-of (stations-of file) i Statements.nothing)),
-        rw (count, parted file bytes accepted .initials-are)
+        rw (parted file bytes accepted .initials-are, count)
             (initial-ends (built file) (initial-part file) (length (stations-of file)) (parts .1) (replicate variables 0)),
       )

@@ -26,7 +26,7 @@ pub record Found (list : List ℕ) (byte station p : ℕ) : Type 0 where
   pub byte-is : list-record-at list p .inside ≡ byte
   pub of-station : list-record-at list p .station ≡ station
 
-pub at-means : (list : List ℕ) (byte station p : ℕ) → is-at list byte station p ≡ true → Found list byte station p
+pub at-means : (list : List ℕ) (byte station p : ℕ) → is-at list (later list) byte station p ≡ true → Found list byte station p
 unfolding is-at
 at-means list byte station p here =
     let e = list-record-at list p in
@@ -41,7 +41,8 @@ at-means list byte station p here =
 abbrev pub Onward : List ℕ → ℕ → ℕ → ℕ → Type 0
 Onward list station p t = (t ≡ 0) ⊎ ((p < t) × (inside list station t ≡ true))
 
-pub onward : (list : List ℕ) (station p t : ℕ) → inside-target list station p t ≡ true → Onward list station p t
+pub onward : (list : List ℕ) (station p t : ℕ) → inside-target list (later list) station p t ≡ true → Onward list station p t
+unfolding inside-target
 onward list station p t right =
     by-test (eqb t 0) (λ e. inl (eqb-true t 0 e))
     (λ e. inr (
@@ -70,40 +71,40 @@ module _ (list : List ℕ) (sound : sound-list list ≡ true) where
   unfolding sound-list
   few-stations = leb-true (stations list) max-stations (surely (leb (stations list) max-stations) (λ e. simp (e, and-false) at sound))
 
-  pub inits-right : (j : ℕ) → j < stations list → init-right list j ≡ true
+  pub inits-right : (j : ℕ) → j < stations list → init-right list (later list) j ≡ true
   unfolding sound-list
   inits-right =
-      each-at (init-right list) (stations list) (surely (each (init-right list) (stations list)) (λ e. simp (e, and-false) at sound))
+      each-at (init-right list (later list)) (stations list) (surely (each (init-right list (later list)) (stations list)) (λ e. simp (e, and-false) at sound))
 
-  pub laters-right : (p : ℕ) → later list ≤ p → p < list-count list → later-right list p ≡ true
+  pub laters-right : (p : ℕ) → later list ≤ p → p < list-count list → later-right list (stations list) (later list) p ≡ true
   unfolding sound-list
   laters-right =
-      let test : ℕ → Bool = λ i. later-right list (later list + i) in
+      let test : ℕ → Bool = λ i. later-right list (stations list) (later list) (later list + i) in
       let count = list-count list - later list in
-      each-from (later-right list) (later list) (list-count list) (surely (each test count) (λ e. simp (e, and-false) at sound))
+      each-from (later-right list (stations list) (later list)) (later list) (list-count list) (surely (each test count) (λ e. simp (e, and-false) at sound))
 
   module _ (station p : ℕ) where
-    pub outside-right : outside list station p ≡ true → outside-targets list p ≡ true
+    pub outside-right : outside list station p ≡ true → outside-targets list (later list) p (list-record-at list p) ≡ true
     unfolding later-right
     outside-right here =
         let is = at-means list 0 station p here in
-        surely (outside-targets list p) (λ d. simp (is .byte-is, d, and-false) at (laters-right p (is .from) (is .within)))
+        surely (outside-targets list (later list) p (list-record-at list p)) (λ d. simp (is .byte-is, d, and-false) at (laters-right p (is .from) (is .within)))
 
-    inside-right : inside list station p ≡ true → inside-targets list p ≡ true
+    inside-right : inside list station p ≡ true → inside-targets list (later list) p (list-record-at list p) ≡ true
     unfolding later-right
     inside-right here =
         let is = at-means list 1 station p here in
-        surely (inside-targets list p) (λ d. simp (is .byte-is, d, and-false) at (laters-right p (is .from) (is .within)))
+        surely (inside-targets list (later list) p (list-record-at list p)) (λ d. simp (is .byte-is, d, and-false) at (laters-right p (is .from) (is .within)))
 
     pub inside-means : inside list station p ≡ true → Inside list station p
-    unfolding inside-targets
+    unfolding inside-target inside-targets
     inside-means here =
         let e = list-record-at list p in
         let is = at-means list 1 station p here in
         let targets = inside-right here in
-        let first = surely (inside-target list station p (e .t1)) (λ d. simp (is .of-station, d) at targets) in
+        let first = surely (inside-target list (later list) station p (e .t1)) (λ d. simp (is .of-station, d) at targets) in
         let second = by-test (eqb (e .own .kind) IF)
-        (λ k. surely (inside-target list station p (e .t2)) (λ d. simp (is .of-station, k, d, and-false) at targets))
+        (λ k. surely (inside-target list (later list) station p (e .t2)) (λ d. simp (is .of-station, k, d, and-false) at targets))
         (λ k. rw (surely (eqb (e .t2) 0) (λ d. simp (k, d, and-false) at targets))) in
         record {
           follows = omega (arith, some-station, is .from);

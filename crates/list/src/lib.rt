@@ -9,7 +9,7 @@ ghost use Rattle.rules.specs.Names.{SKIP, SET, IF, WHILE, AWAIT, STOP};
 ghost use Rattle.rules.specs.Records.{list-count};
 ghost use Rattle.rules.specs.List.{stations, initial-right, own-right, sound-list};
 ghost use Rattle.record.specs.View.{as-record, as-list-record};
-ghost use Rattle.list.specs.Given.{later-after, is-at-from, init-right-with, outside-targets-with, inside-target-with, inside-targets-with, later-right-with};
+ghost use Rattle.rules.specs.List.{later-after, is-at, init-right, outside-targets, inside-target, inside-targets, later-right};
 use record::ListRecord;
 use record::Record;
 
@@ -55,7 +55,7 @@ pub fn later(list: &[u8], n: usize) -> usize
 
 // Whether place p has a later record, of this station and with this byte 9. INIT and initial records are neither outside nor inside.
 fn is_at(list: &[u8], later: usize, inside: u8, station: u8, p: usize) -> bool
-    ensures { λ r. ⌜ r ≡ is-at-from (now (list .entry)) later inside station p ⌝ }
+    ensures { λ r. ⌜ r ≡ is-at (now (list .entry)) later inside station p ⌝ }
 {
     if p < later {
         return false;
@@ -69,21 +69,21 @@ fn is_at(list: &[u8], later: usize, inside: u8, station: u8, p: usize) -> bool
 
 // Whether place p has an outside record of this station, in a list whose first later record is at later.
 pub fn outside(list: &[u8], later: usize, station: u8, p: usize) -> bool
-    ensures { λ r. ⌜ r ≡ is-at-from (now (list .entry)) later 0 station p ⌝ }
+    ensures { λ r. ⌜ r ≡ is-at (now (list .entry)) later 0 station p ⌝ }
 {
     is_at(list, later, 0, station, p)
 }
 
 // Whether place p has an inside record of this station.
 fn inside(list: &[u8], later: usize, station: u8, p: usize) -> bool
-    ensures { λ r. ⌜ r ≡ is-at-from (now (list .entry)) later 1 station p ⌝ }
+    ensures { λ r. ⌜ r ≡ is-at (now (list .entry)) later 1 station p ⌝ }
 {
     is_at(list, later, 1, station, p)
 }
 
 // Whether the record at place j is station j's INIT.
 fn init_right(list: &[u8], later: usize, j: usize) -> bool
-    ensures { λ r. ⌜ r ≡ init-right-with (now (list .entry)) later j ⌝ }
+    ensures { λ r. ⌜ r ≡ init-right (now (list .entry)) later j ⌝ }
 {
     let e = ListRecord::at(list, j);
     let own = e.own;
@@ -124,7 +124,7 @@ fn follows(t: usize, p: usize) -> bool
 
 // Whether the targets of e, the outside record at place p, are right by its kind.
 fn outside_targets(list: &[u8], later: usize, p: usize, e: ListRecord) -> bool
-    ensures { λ r. ⌜ r ≡ outside-targets-with (now (list .entry)) later p (as-list-record e) ⌝ }
+    ensures { λ r. ⌜ r ≡ outside-targets (now (list .entry)) later p (as-list-record e) ⌝ }
 {
     let own = e.own;
     let kind = own.kind;
@@ -146,14 +146,14 @@ fn outside_targets(list: &[u8], later: usize, p: usize, e: ListRecord) -> bool
 
 // Whether t, a target of an inside record at place p, is 0 or a higher inside record of the same station.
 fn inside_target(list: &[u8], later: usize, station: u8, p: usize, t: usize) -> bool
-    ensures { λ r. ⌜ r ≡ inside-target-with (now (list .entry)) later station p t ⌝ }
+    ensures { λ r. ⌜ r ≡ inside-target (now (list .entry)) later station p t ⌝ }
 {
     (t == 0) | (p < t) & inside(list, later, station, t)
 }
 
 // Whether the targets of e, the inside record at place p, are right: only an IF has a second.
 fn inside_targets(list: &[u8], later: usize, p: usize, e: ListRecord) -> bool
-    ensures { λ r. ⌜ r ≡ inside-targets-with (now (list .entry)) later p (as-list-record e) ⌝ }
+    ensures { λ r. ⌜ r ≡ inside-targets (now (list .entry)) later p (as-list-record e) ⌝ }
 {
     let own = e.own;
     let first = inside_target(list, later, e.station, p, e.t1 as usize);
@@ -194,7 +194,7 @@ fn inside_kind(kind: u8) -> bool
 
 // Whether the later record at place p is right, in a list of n stations: byte 9 says by which rules.
 fn later_right(list: &[u8], n: usize, later: usize, p: usize) -> bool
-    ensures { λ r. ⌜ r ≡ later-right-with (now (list .entry)) n later p ⌝ }
+    ensures { λ r. ⌜ r ≡ later-right (now (list .entry)) n later p ⌝ }
 {
     let e = ListRecord::at(list, p);
     let own = e.own;
@@ -207,7 +207,7 @@ fn later_right(list: &[u8], n: usize, later: usize, p: usize) -> bool
 
 // Whether each of the first n records is its station's INIT.
 fn each_init_right(list: &[u8], n: usize, later: usize) -> bool
-    ensures { λ r. ⌜ r ≡ each (init-right-with (now (list .entry)) later) n ⌝ }
+    ensures { λ r. ⌜ r ≡ each (init-right (now (list .entry)) later) n ⌝ }
 {
     let mut j: usize = 0;
     while j < n {
@@ -235,7 +235,7 @@ fn each_initial_right(list: &[u8], n: usize, later: usize) -> bool
 
 // Whether each record from the first later one on is right.
 fn each_later_right(list: &[u8], n: usize, later: usize) -> bool
-    ensures { λ r. ⌜ r ≡ each (λ i. later-right-with (now (list .entry)) n later (later + i)) (list-count (now (list .entry)) - later) ⌝ }
+    ensures { λ r. ⌜ r ≡ each (λ i. later-right (now (list .entry)) n later (later + i)) (list-count (now (list .entry)) - later) ⌝ }
 {
     let count = list.len() / 16;
     let mut p = later;

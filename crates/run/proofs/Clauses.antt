@@ -10,9 +10,8 @@ use Rattle.rules.specs.Words.{each}
 use Rattle.rules.specs.Names.{max-stations, max-steps}
 use Rattle.rules.specs.List.{stations}
 use Rattle.rules.specs.State.{State, position, priority, few-low, empty-at, sound-state}
-use Rattle.laws.proofs.Places.{each-same}
-use Rattle.list.specs.Given.{later-after, is-at-from}
-use Rattle.list.proofs.Given.{later-counted, is-at-given}
+use Rattle.rules.specs.List.{later-after, is-at}
+use Rattle.list.proofs.Given.{later-counted}
 use Rattle.rules.specs.State.{few-low-in, empty-in}
 
 -- the whole, at the number of stations and the place of the first later record
@@ -20,10 +19,10 @@ pub sound-given :
     (list : List ℕ) (s : State) {n later : ℕ} → n ≡ stations list → later ≡ later-after list n →
     sound-state list s
     ≡ (eqb (s .n) n && leb (s .m) max-steps
-    && each (λ j. is-at-from list later 0 j (position s j)) (s .n)
+    && each (λ j. is-at list later 0 j (position s j)) (s .n)
     && each (λ j. leZ (priority s j) (pos (s .b))) (s .n)
     && each (λ i. few-low-in (s .priorities) (s .n) (suc i)) (s .n)
     && each (λ i. empty-in (s .positions) (s .priorities) (s .n + i)) (max-stations - s .n))
 unfolding sound-state few-low empty-at
 sound-given list s counted found =
-    rw (later-counted list counted found, counted, each-same _ _ (s .n) (λ j l. is-at-given list 0 j (position s j)))
+    rw (later-counted list counted found, counted)

@@ -5,7 +5,7 @@ ghost use lib.IntN.{pos, negℤ};
 ghost use lib.Signed.{leZ};
 ghost use Rattle.rules.specs.Words.{each, tally};
 ghost use Rattle.rules.specs.Names.{max-stations};
-ghost use Rattle.list.specs.Given.{is-at-from};
+ghost use Rattle.rules.specs.List.{is-at};
 ghost use Rattle.rules.specs.State.{position-in, priority-in, few-low-in, empty-in};
 use crate::MAX_STATIONS;
 use crate::position;
@@ -13,7 +13,7 @@ use crate::priority;
 
 // Whether each of n stations stands at an outside record of its own, in a list whose first later record is at later.
 pub fn placed(list: &[u8], later: usize, positions: [u16; 8], n: u8) -> bool
-    ensures { λ r. ⌜ r ≡ each (λ j. is-at-from (now (list .entry)) later 0 j (position-in positions j)) n ⌝ }
+    ensures { λ r. ⌜ r ≡ each (λ j. is-at (now (list .entry)) later 0 j (position-in positions j)) n ⌝ }
 {
     let n = n as usize;
     let mut j: usize = 0;

@@ -8,12 +8,12 @@ use borrow.Author.Needs.{needs}
 use borrow.Author.Count.{below-none, below-more}
 use borrow.Author.Tests.{not-true, not-false}
 use Rattle.laws.proofs.Places.{each-all, each-not}
-use Rattle.list.specs.Given.{init-right-with}
+use Rattle.rules.specs.List.{init-right}
 use Rattle.list.proofs.each_init_right.Statement.{statement}
 use Rattle.list.proofs.each_init_right.Tie as tie
 
 abbrev Inv-loop : tie.InvT-loop
-Inv-loop list n later j₀ j = (j ≤ n) × ((k : ℕ) → k < j → init-right-with list later k ≡ true)
+Inv-loop list n later j₀ j = (j ≤ n) × ((k : ℕ) → k < j → init-right list later k ≡ true)
 
 abbrev μ-loop : tie.MeasureT-loop
 μ-loop list n later j₀ j = n - j

@@ -7,13 +7,13 @@ use native.Mathlib.Omega.{arith}
 use borrow.Author.Needs.{needs}
 use borrow.Author.Count.{below-more}
 use borrow.Author.Tests.{not-true, not-false}
-use Rattle.list.specs.Given.{later-right-with}
+use Rattle.rules.specs.List.{later-right}
 use Rattle.list.proofs.From.{each-from, each-from-not}
 use Rattle.list.proofs.each_later_right.Statement.{statement}
 use Rattle.list.proofs.each_later_right.Tie as tie
 
 abbrev Inv-loop : tie.InvT-loop
-Inv-loop list n later count p₀ p = (later ≤ p) × ((k : ℕ) → k < p → later ≤ k → later-right-with list n later k ≡ true)
+Inv-loop list n later count p₀ p = (later ≤ p) × ((k : ℕ) → k < p → later ≤ k → later-right list n later k ≡ true)
 
 abbrev μ-loop : tie.MeasureT-loop
 μ-loop list n later count p₀ p = count - p
@@ -29,7 +29,7 @@ returns c =
     let turn = c .before .before in
     let a = turn .before .before .before .args in
     let fails = sym (c .before .later-right .ensures) ∙ not-true _ (c .if1 .taken) in
-    sym (each-from-not (later-right-with (a .list .now) (a .n) (a .later)) (a .later) _ _ (turn .before .loop .inv .0) (turn .loop-test .taken) fails)
+    sym (each-from-not (later-right (a .list .now) (a .n) (a .later)) (a .later) _ _ (turn .before .loop .inv .0) (turn .loop-test .taken) fails)
 
 add-p : tie.Need-add-p Inv-loop μ-loop
 add-p c = search needs
@@ -46,7 +46,7 @@ loop-again c = (
 returns-2 : tie.Need-returns-2 Inv-loop μ-loop
 returns-2 c =
     let a = c .before .before .before .args in
-    sym (each-from (later-right-with (a .list .now) (a .n) (a .later)) (a .later) _ (λ k l. c .before .loop .inv .1 k (omega arith)))
+    sym (each-from (later-right (a .list .now) (a .n) (a .later)) (a .later) _ (λ k l. c .before .loop .inv .1 k (omega arith)))
 
 pub each-later-right-spec : {M : Type 1} → statement M
 each-later-right-spec =

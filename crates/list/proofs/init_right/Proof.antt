@@ -2,7 +2,7 @@
 -- is j where the station was found right.
 -- Assumes nothing.
 use borrow.Author.Needs.{needs}
-use Rattle.list.specs.Given.{is-at-from, init-right-with}
+use Rattle.rules.specs.List.{is-at, init-right}
 use Rattle.list.proofs.Tests.{same-station}
 use Rattle.list.proofs.init_right.Statement.{statement}
 use Rattle.list.proofs.init_right.Tie as tie
@@ -23,7 +23,7 @@ outside-requires : tie.Need-outside-requires
 outside-requires c κs = search needs
 
 returns : tie.Need-returns
-unfolding init-right-with
+unfolding init-right
 returns c =
     let decoded = c .before .before .before .before .before .before .before .before .before .before .before in
     let a = decoded .before .before .args in
@@ -31,7 +31,7 @@ returns c =
     rw (
       ← decoded .at .ensures,
       c .before .before .outside .ensures,
-      same-station _ _ (e .station) (a .j) (λ s. is-at-from (a .list .now) (a .later) 0 s (e .t1)),
+      same-station _ _ (e .station) (a .j) (λ s. is-at (a .list .now) (a .later) 0 s (e .t1)),
     )
 
 pub init-right-spec : {M : Type 1} → statement M

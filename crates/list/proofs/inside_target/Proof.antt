@@ -1,7 +1,7 @@
 -- `list::inside_target` meets its contract, by what `inside` answers.
 -- Assumes nothing.
 use borrow.Author.Needs.{needs}
-use Rattle.list.specs.Given.{inside-target-with}
+use Rattle.rules.specs.List.{inside-target}
 use Rattle.list.proofs.inside_target.Statement.{statement}
 use Rattle.list.proofs.inside_target.Tie as tie
 
@@ -9,7 +9,7 @@ inside-requires : tie.Need-inside-requires
 inside-requires c κs = search needs
 
 returns : tie.Need-returns
-unfolding inside-target-with
+unfolding inside-target
 returns c = rw (c .inside .ensures)
 
 pub inside-target-spec : {M : Type 1} → statement M

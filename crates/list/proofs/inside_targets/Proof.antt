@@ -2,7 +2,7 @@
 -- Assumes nothing.
 use borrow.Author.Needs.{needs}
 use borrow.Author.Tests.{eq-eqb, ne-eqb}
-use Rattle.list.specs.Given.{inside-targets-with}
+use Rattle.rules.specs.List.{inside-targets}
 use Rattle.list.proofs.inside_targets.Statement.{statement}
 use Rattle.list.proofs.inside_targets.Tie as tie
 
@@ -19,13 +19,13 @@ inside-target-requires-2 : tie.Need-inside-target-requires-2
 inside-target-requires-2 c κs = search needs
 
 returns : tie.Need-returns
-unfolding inside-targets-with
+unfolding inside-targets
 returns c =
     let tested = c .before .before in
     rw (eq-eqb _ _ (tested .if1 .taken), tested .before .before .inside-target .ensures, c .inside-target2 .ensures)
 
 returns-2 : tie.Need-returns-2
-unfolding inside-targets-with
+unfolding inside-targets
 returns-2 c =
     let tested = c .before in
     rw (ne-eqb _ _ (tested .if1 .left), tested .before .before .inside-target .ensures)

@@ -4,16 +4,16 @@
 use borrow.Author.Needs.{needs}
 use borrow.Author.Tests.{lt-ltb, le-ltb, le-leb, lt-leb}
 use Rattle.rules.specs.Records.{list-record-at}
-use Rattle.list.specs.Given.{is-at-from}
+use Rattle.rules.specs.List.{is-at}
 use Rattle.list.proofs.is_at.Statement.{statement}
 use Rattle.list.proofs.is_at.Tie as tie
 
 returns : tie.Need-returns
-unfolding is-at-from
+unfolding is-at
 returns c = rw (lt-leb _ _ (c .if1 .taken))
 
 returns-2 : tie.Need-returns-2
-unfolding is-at-from
+unfolding is-at
 returns-2 c = rw (le-leb _ _ (c .before .if1 .left), le-ltb _ _ (c .if2 .taken))
 
 mul-at : tie.Need-mul-at
@@ -32,7 +32,7 @@ shared-slice-read-result-2 : tie.Need-shared-slice-read-result-2
 shared-slice-read-result-2 c = search needs
 
 returns-3 : tie.Need-returns-3
-unfolding is-at-from list-record-at
+unfolding is-at list-record-at
 returns-3 c = rw (le-leb _ _ (c .before .before .before .if1 .left), lt-ltb _ _ (c .before .before .if2 .left))
 
 pub is-at-spec : {M : Type 1} → statement M

@@ -10,7 +10,7 @@ use borrow.Author.Needs.{needs}
 use borrow.Author.Count.{below-more}
 use borrow.Author.Tests.{eq-eqb, ne-eqb}
 use Rattle.rules.specs.Records.{list-record-at}
-use Rattle.list.specs.Given.{stationed, later-after}
+use Rattle.rules.specs.List.{stationed, initials-after}
 use Rattle.list.proofs.From.{first-from, first-from-none}
 use Rattle.list.proofs.later.Statement.{statement}
 use Rattle.list.proofs.later.Tie as tie
@@ -34,7 +34,7 @@ shared-slice-read-if1 : tie.Need-shared-slice-read-if1 Inv-loop μ-loop
 shared-slice-read-if1 c = search needs
 
 returns : tie.Need-returns Inv-loop μ-loop
-unfolding later-after list-record-at
+unfolding initials-after list-record-at
 returns c =
     let turn = c .before .before in
     let a = turn .before .before .args in
@@ -57,7 +57,7 @@ loop-again c = (
 )
 
 returns-2 : tie.Need-returns-2 Inv-loop μ-loop
-unfolding later-after
+unfolding initials-after
 returns-2 c =
     let a = c .before .before .args in
     let inv = c .before .loop .inv in

@@ -2,7 +2,7 @@
 -- Assumes nothing.
 use borrow.Author.Needs.{needs}
 use borrow.Author.Tests.{eq-eqb, ne-eqb}
-use Rattle.list.specs.Given.{later-right-with}
+use Rattle.rules.specs.List.{later-right}
 use Rattle.list.proofs.later_right.Statement.{statement}
 use Rattle.list.proofs.later_right.Tie as tie
 
@@ -22,7 +22,7 @@ outside-targets-requires : tie.Need-outside-targets-requires
 outside-targets-requires c κs = search needs
 
 returns : tie.Need-returns
-unfolding later-right-with
+unfolding later-right
 returns c =
     let tested = c .before .before in
     let fields = tested .before .before .before in
@@ -41,7 +41,7 @@ inside-targets-requires : tie.Need-inside-targets-requires
 inside-targets-requires c κs = search needs
 
 returns-2 : tie.Need-returns-2
-unfolding later-right-with
+unfolding later-right
 returns-2 c =
     let tested = c .before .before .before in
     let fields = tested .before .before .before in

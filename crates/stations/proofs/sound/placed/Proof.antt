@@ -9,14 +9,14 @@ use borrow.Author.Needs.{needs}
 use borrow.Author.Count.{below-none, below-more}
 use borrow.Author.Tests.{not-true, not-false}
 use Rattle.laws.proofs.Places.{each-all, each-not}
-use Rattle.list.specs.Given.{is-at-from}
+use Rattle.rules.specs.List.{is-at}
 use Rattle.rules.specs.State.{position-in}
 use Rattle.stations.proofs.sound.placed.Statement.{statement}
 use Rattle.stations.proofs.sound.placed.Tie as tie
 
 abbrev Inv-loop : tie.InvT-loop
 Inv-loop list later positions n n' j₀ j =
-    (j ≤ n) × ((k : ℕ) → k < j → is-at-from list later 0 k (position-in positions k) ≡ true)
+    (j ≤ n) × ((k : ℕ) → k < j → is-at list later 0 k (position-in positions k) ≡ true)
 
 abbrev μ-loop : tie.MeasureT-loop
 μ-loop list later positions n n' j₀ j = n - j
