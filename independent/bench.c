@@ -322,10 +322,10 @@ static struct input *after_picks(const struct input *before)
 union our_answer {
     press_checked checked;
     press_built built;
-    press_started started;
-    press_stepped stepped;
+    press_outcome started;
+    press_outcome stepped;
     press_ran ran;
-    press_undone undone;
+    press_outcome undone;
     press_lit lit;
 };
 

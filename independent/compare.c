@@ -87,7 +87,7 @@ static int agree(const struct call *c)
         break;
     }
     case 3: {
-        press_started r = press_start(a[0].bytes, a[0].len, a[1].bytes[0], a[2].bytes, a[2].len, a[3].bytes, a[3].len);
+        press_outcome r = press_start(a[0].bytes, a[0].len, a[1].bytes[0], a[2].bytes, a[2].len, a[3].bytes, a[3].len);
         struct ind_state_answer t =
             ind_start(b[0].bytes, b[0].len, b[1].bytes[0], b[2].bytes, b[2].len, b[3].bytes, b[3].len);
         same = r.number == t.number && same_state(&r.state, &t.state);
@@ -97,7 +97,7 @@ static int agree(const struct call *c)
         static struct field log;
         press_state lent = our_state(a[1].bytes);
         log = a[2];
-        press_stepped r = press_step(our_state(a[1].bytes), a[0].bytes, a[0].len, a[2].bytes, a[2].len, a[3].bytes[0],
+        press_outcome r = press_step(our_state(a[1].bytes), a[0].bytes, a[0].len, a[2].bytes, a[2].len, a[3].bytes[0],
                                      a[3].bytes[1]);
         uint8_t number =
             press_advance(&lent, a[0].bytes, a[0].len, log.bytes, log.len, a[3].bytes[0], a[3].bytes[1]);
@@ -117,7 +117,7 @@ static int agree(const struct call *c)
         break;
     }
     case 6: {
-        press_undone r = press_undo(our_state(a[1].bytes), a[0].bytes, a[0].len, a[2].bytes, a[2].len);
+        press_outcome r = press_undo(our_state(a[1].bytes), a[0].bytes, a[0].len, a[2].bytes, a[2].len);
         struct ind_state_answer t = ind_undo(b[0].bytes, b[0].len, their_state(b[1].bytes), b[2].bytes, b[2].len);
         same = r.number == t.number && same_state(&r.state, &t.state);
         break;

@@ -39,7 +39,7 @@ int main(void)
     list_len = (size_t)16 * built.count;
 
     const uint8_t resets[] = {0, 0};
-    const press_started started = press_start(list, list_len, 0, resets, sizeof resets, steps_log, sizeof steps_log);
+    const press_outcome started = press_start(list, list_len, 0, resets, sizeof resets, steps_log, sizeof steps_log);
     if (started.number != 0) {
         printf("start refused: %u\n", (unsigned)started.number);
         return 1;
@@ -54,7 +54,7 @@ int main(void)
             return 0;
         unsigned number;
         if (station == 255 && reset == 0) {
-            const press_undone undone = press_undo(state, list, list_len, steps_log, sizeof steps_log);
+            const press_outcome undone = press_undo(state, list, list_len, steps_log, sizeof steps_log);
             number = undone.number;
             state = undone.state; /* refused: the state given */
         } else {

@@ -94,17 +94,14 @@ typedef struct press_state {
     uint16_t m;
 } press_state;
 
-/* 0 and the state with no steps; or a refusal and a state of zeros, which is no state to go on from. */
-typedef struct press_started {
+/*
+ * What a start, a step and an undo answer: 0 and the state reached; or a refusal and the state given. A start is given
+ * none: refused, it answers zeros, which are no state to go on from.
+ */
+typedef struct press_outcome {
     uint8_t number;
     press_state state;
-} press_started;
-
-/* 0 and the state after the step; or a refusal and the state given. */
-typedef struct press_stepped {
-    uint8_t number;
-    press_state state;
-} press_stepped;
+} press_outcome;
 
 /* 0 or the refusal that ended the run, the state reached, and the number of steps taken. */
 typedef struct press_ran {
@@ -113,19 +110,13 @@ typedef struct press_ran {
     size_t steps;
 } press_ran;
 
-/* 0 and the state before the last step; or a refusal and the state given. */
-typedef struct press_undone {
-    uint8_t number;
-    press_state state;
-} press_undone;
-
 /*
  * Starts a run, with a reset for each station and b the largest reset from then on. It answers the state with no steps,
  * the initial part run and the priorities set to the resets, and writes the start records to the front of the log, two
  * bytes for each station, its number and its reset; the bytes after them stay. Refused (PRESS_LIST, PRESS_RESET,
  * PRESS_ROOM, in this order), it answers zeros and leaves the log as it was.
  */
-press_started press_start(const uint8_t *list, size_t list_len, uint8_t b, const uint8_t *resets, size_t resets_len,
+press_outcome press_start(const uint8_t *list, size_t list_len, uint8_t b, const uint8_t *resets, size_t resets_len,
                           uint8_t *log, size_t log_len);
 
 /*
@@ -133,7 +124,7 @@ press_started press_start(const uint8_t *list, size_t list_len, uint8_t b, const
  * bytes, to the log at byte 2 * (n + m) of the state given; the other bytes stay. Refused (7, 8, 9, 6, 10, 11, 12, 13,
  * in this order), it answers the state given and leaves the log as it was.
  */
-press_stepped press_step(press_state state, const uint8_t *list, size_t list_len, uint8_t *log, size_t log_len,
+press_outcome press_step(press_state state, const uint8_t *list, size_t list_len, uint8_t *log, size_t log_len,
                          uint8_t station, uint8_t reset);
 
 /*
@@ -158,7 +149,7 @@ press_ran press_run(press_state state, const uint8_t *list, size_t list_len, uin
  * writes over the record withdrawn. Refused (PRESS_LIST, PRESS_STATE, PRESS_EMPTY, PRESS_LOG, in this order), it
  * answers the state given.
  */
-press_undone press_undo(press_state state, const uint8_t *list, size_t list_len, const uint8_t *log, size_t log_len);
+press_outcome press_undo(press_state state, const uint8_t *list, size_t list_len, const uint8_t *log, size_t log_len);
 
 /* ---- the lights */
 
