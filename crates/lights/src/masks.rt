@@ -9,11 +9,9 @@ ghost use Rattle.laws.specs.Passed.{Known};
 ghost use Rattle.run.specs.View.{as-state};
 ghost use Rattle.lights.specs.Masks.{with-bit, with-station, masks-from, Room};
 use record::ListRecord;
+use record::Record;
 use run::State;
 use touches::Touched;
-
-// Variables are numbered from 0 to 31.
-const VARIABLES: usize = 32;
 
 // Of the stations from one on, which is bit 0: those that are ready, in turn, waiting and ended; and for each variable those whose next
 // step reads it, and those whose next step writes it.
@@ -101,7 +99,7 @@ fn with_bits(masks: [u8; 32], bits: [bool; 32]) -> [u8; 32]
 {
     let mut row = [0u8; 32];
     let mut v = 0;
-    while v < VARIABLES {
+    while v < Record::VARIABLES {
         row[v] = with_bit(masks[v], bits[v]);
         v += 1;
     }

@@ -13,15 +13,6 @@ ghost use Rattle.rules.specs.List.{later-after, is-at, init-right, outside-targ
 use record::ListRecord;
 use record::Record;
 
-// Records of a list, at most.
-const MAX_LIST: usize = 1032;
-
-// Stations of a list, at most.
-const MAX_STATIONS: usize = 8;
-
-// The station byte of the initial part.
-const NO_STATION: u8 = 255;
-
 // The number of INIT records that the list opens with.
 pub fn stations(list: &[u8]) -> usize
     ensures { λ r. ⌜ r ≡ stations (now (list .entry)) ⌝ }
@@ -45,7 +36,7 @@ pub fn later(list: &[u8], n: usize) -> usize
     let count = list.len() / 16;
     let mut p = n;
     while p < count {
-        if list[16 * p + 8] != NO_STATION {
+        if list[16 * p + 8] != Record::NO_STATION {
             return p;
         }
         p += 1;
@@ -255,14 +246,14 @@ pub fn sound(list: &[u8]) -> bool
     if list.len() % 16 != 0 {
         return false;
     }
-    if MAX_LIST < list.len() / 16 {
+    if Record::MAX_LIST < list.len() / 16 {
         return false;
     }
     let n = stations(list);
     if n < 1 {
         return false;
     }
-    if MAX_STATIONS < n {
+    if Record::MAX_STATIONS < n {
         return false;
     }
     let later = later(list, n);

@@ -7,9 +7,7 @@ ghost use Rattle.record.specs.View.{as-record};
 ghost use Rattle.record.specs.Numbers.{rule-number, digits};
 use crate::Record;
 
-// Variables are numbered from 0 to 31, and hold numbers below 2^32.
-const VARIABLES: u64 = 32;
-
+// A field holds numbers below 2^32.
 const NUMBERS: u64 = 4294967296;
 
 impl Record {
@@ -54,7 +52,7 @@ fn past(number: u8) -> u64
 {
     match number {
         0 => 1,
-        1 => VARIABLES,
+        1 => Record::VARIABLES as u64,
         2 => NUMBERS,
         _ => 0,
     }

@@ -1,8 +1,9 @@
-// The document's names for its numbers, as constants of a record: the kinds, and the refusals. They are the numbers of the rules.
+// The document's names for its numbers, as constants of a record: the kinds, the refusals and the limits. They are the numbers of the rules.
 ghost use mathlib.Core.Path.{_≡_};
 ghost use mathlib.Core.List.{[], _∷_};
 ghost use Rattle.rules.specs.Names.{STATION, SKIP, SET, IF, ELSE, FI, WHILE, OD, AWAIT, END, INIT, STOP};
 ghost use Rattle.rules.specs.Names.{LENGTH, FIELD, COUNT, SHAPE, DEPTH, ROOM, LIST, STATE, FULL, COMPONENT, NOT-READY, TURN, RESET, EMPTY, LOG};
+ghost use Rattle.rules.specs.Names.{max-records, max-stations, max-depth, variables, max-list, max-steps, no-station};
 use crate::Record;
 
 impl Record {
@@ -63,6 +64,27 @@ impl Record {
 
     pub const LOG: u8 = 15;
 
+    // Records of a written sequence, at most.
+    pub const MAX_RECORDS: usize = 1024;
+
+    // Stations, at most.
+    pub const MAX_STATIONS: usize = 8;
+
+    // IF, WHILE and AWAIT open at once, at most.
+    pub const MAX_DEPTH: usize = 16;
+
+    // Variables, numbered from 0.
+    pub const VARIABLES: usize = 32;
+
+    // Records of a built-in list, at most.
+    pub const MAX_LIST: usize = 1032;
+
+    // Standing steps, at most.
+    pub const MAX_STEPS: u16 = 4096;
+
+    // The station byte of a list's initial part.
+    pub const NO_STATION: u8 = 255;
+
     // The kinds in order: the code's numbers are the document's.
     pub fn kinds() -> [u8; 12]
         ensures { λ r. ⌜ r ≡ STATION ∷ SKIP ∷ SET ∷ IF ∷ ELSE ∷ FI ∷ WHILE ∷ OD ∷ AWAIT ∷ END ∷ INIT ∷ STOP ∷ [] ⌝ }
@@ -103,6 +125,21 @@ impl Record {
             Record::RESET,
             Record::EMPTY,
             Record::LOG,
+        ]
+    }
+
+    // The limits in order: the code's numbers are the document's.
+    pub fn limits() -> [usize; 7]
+        ensures { λ r. ⌜ r ≡ max-records ∷ max-stations ∷ max-depth ∷ variables ∷ max-list ∷ max-steps ∷ no-station ∷ [] ⌝ }
+    {
+        [
+            Record::MAX_RECORDS,
+            Record::MAX_STATIONS,
+            Record::MAX_DEPTH,
+            Record::VARIABLES,
+            Record::MAX_LIST,
+            Record::MAX_STEPS as usize,
+            Record::NO_STATION as usize,
         ]
     }
 }

@@ -9,9 +9,6 @@ mod undo;
 
 pub use begin::start;
 
-// Standing steps, at most.
-const MAX_STEPS: u16 = 4096;
-
 // What a run has reached: the variables, each station's position and priority, the number of stations n, the largest reset b, and the
 // number of standing steps m.
 #[repr(C)]

@@ -2,8 +2,8 @@
 ghost use mathlib.Core.Path.{_≡_};
 ghost use Rattle.rules.specs.State.{sound-state};
 ghost use Rattle.run.specs.View.{as-state};
-use crate::MAX_STEPS;
 use crate::State;
+use record::Record;
 
 impl State {
     // Whether the state is sound against the list.
@@ -14,7 +14,7 @@ impl State {
         if self.n as usize != n {
             return false;
         }
-        if MAX_STEPS < self.m {
+        if Record::MAX_STEPS < self.m {
             return false;
         }
         let positions = self.positions;

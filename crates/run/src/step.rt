@@ -9,7 +9,6 @@ ghost use Rattle.laws.specs.Passed.{Known};
 ghost use Rattle.record.specs.View.{as-list-record};
 ghost use Rattle.run.specs.View.{as-state, as-picked};
 ghost use Rattle.run.specs.Promises.{StepPromise};
-use crate::MAX_STEPS;
 use crate::Outcome;
 use crate::State;
 use crate::charge::charged;
@@ -41,7 +40,7 @@ impl State {
         requires { ⌜ Known (now list) (as-state self) ⌝ }
         ensures { λ r. ⌜ StepPromise (now (list .entry)) (as-state self) (now (log .entry)) (record { station = station; reset = reset }) r (now (log .exit)) ⌝ }
     {
-        if self.m == MAX_STEPS {
+        if self.m == Record::MAX_STEPS {
             return Outcome {
                 number: Record::FULL,
                 state: self,

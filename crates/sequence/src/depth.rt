@@ -8,9 +8,6 @@ ghost use Rattle.rules.specs.Shape.{opens, depth-after};
 ghost use Rattle.rules.specs.Check.{depth-place};
 use record::Record;
 
-// IF, WHILE and AWAIT open at once, at most.
-pub(crate) const MAX_DEPTH: usize = 16;
-
 // The place of the first record that is one more open than may be; the number of records where there is none.
 pub fn depth_place(file: &[u8]) -> usize
     ensures { λ r. ⌜ r ≡ depth-place (now (file .entry)) ⌝ }
@@ -19,7 +16,7 @@ pub fn depth_place(file: &[u8]) -> usize
     let mut at: usize = 0;
     while at < file.len() / 8 {
         let kind = file[8 * at];
-        if opens(kind) && depth >= MAX_DEPTH {
+        if opens(kind) && depth >= Record::MAX_DEPTH {
             return at;
         }
         depth = depth_after(depth, kind);

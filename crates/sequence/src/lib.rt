@@ -12,12 +12,6 @@ use shape::read_file;
 mod depth;
 mod shape;
 
-// Records of a written sequence, at most.
-const MAX_RECORDS: usize = 1024;
-
-// Stations, at most.
-const MAX_STATIONS: usize = 8;
-
 // What checking answers: 0 or the number of the refusal, and the place of a record.
 #[repr(C)]
 pub struct Checked {
@@ -63,7 +57,7 @@ fn wrong_length(file: &[u8]) -> bool
     ensures { λ r. ⌜ r ≡ wrong-length (now (file .entry)) ⌝ }
 {
     let bytes = file.len();
-    bytes % 8 != 0 || bytes == 0 || bytes > 8 * MAX_RECORDS
+    bytes % 8 != 0 || bytes == 0 || bytes > 8 * Record::MAX_RECORDS
 }
 
 // FIELD: the place of the first record outside the document's table; the number of records where there is none.
@@ -85,7 +79,7 @@ fn wrong_count(file: &[u8]) -> bool
     ensures { λ r. ⌜ r ≡ wrong-count (now (file .entry)) ⌝ }
 {
     let stations = station_count(file);
-    stations < 1 || stations > MAX_STATIONS
+    stations < 1 || stations > Record::MAX_STATIONS
 }
 
 // How many STATION records the file has, wherever they stand.

@@ -7,8 +7,6 @@ ghost use lib.ListN.{length};
 ghost use Rattle.rules.specs.Names.{STATION, max-records};
 ghost use Rattle.rules.specs.Check.{kinds};
 ghost use Rattle.sequence.specs.Reading.{opened, grown, closed, stride-of, reading, shape-of};
-use crate::MAX_RECORDS;
-use crate::depth::MAX_DEPTH;
 use record::Record;
 
 // An open list of statements: the kind that closes it, whether it stands in an AWAIT body, and whether it has a statement yet.
@@ -152,8 +150,8 @@ fn read_deep(s: &[u8], part: Part) -> Read
     requires { ⌜ length (now s) ≤ 8 * max-records ⌝ }
     ensures { λ r. ⌜ r ≡ reading part [] (kinds (now (s .entry))) ⌝ }
 {
-    let mut closes = [0u8; MAX_RECORDS];
-    let mut bodies = [false; MAX_RECORDS];
+    let mut closes = [0u8; Record::MAX_RECORDS];
+    let mut bodies = [false; Record::MAX_RECORDS];
     let mut open: usize = 0;
     let mut part = part;
     let mut place: usize = 0;
@@ -224,5 +222,9 @@ fn read_stations(s: &[u8]) -> Read
     requires { ⌜ length (now s) ≤ 8 * max-records ⌝ }
     ensures { λ r. ⌜ r ≡ reading (opened STATION false) [] (kinds (now (s .entry))) ⌝ }
 {
-    read_part(s, Part::opened(Record::STATION, false), MAX_DEPTH + 1)
+    read_part(
+        s,
+        Part::opened(Record::STATION, false),
+        Record::MAX_DEPTH + 1,
+    )
 }

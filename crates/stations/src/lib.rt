@@ -2,6 +2,7 @@
 // `ready` has readiness and the pick order, `sound` the clauses of a sound state.
 ghost use mathlib.Core.Path.{_≡_};
 ghost use Rattle.rules.specs.State.{position-in, priority-in};
+use record::Record;
 
 mod ready;
 mod sound;
@@ -19,14 +20,11 @@ pub use sound::empty;
 pub use sound::few_low;
 pub use sound::placed;
 
-// Places for stations in a state.
-const MAX_STATIONS: usize = 8;
-
 // Station j's position; 0 for a station that there is no place for.
 pub fn position(positions: [u16; 8], j: usize) -> usize
     ensures { λ r. ⌜ r ≡ position-in positions j ⌝ }
 {
-    if j < MAX_STATIONS {
+    if j < Record::MAX_STATIONS {
         return positions[j] as usize;
     }
     0
@@ -36,7 +34,7 @@ pub fn position(positions: [u16; 8], j: usize) -> usize
 pub fn priority(priorities: [i16; 8], j: usize) -> i16
     ensures { λ r. ⌜ r ≡ priority-in priorities j ⌝ }
 {
-    if j < MAX_STATIONS {
+    if j < Record::MAX_STATIONS {
         return priorities[j];
     }
     0

@@ -10,7 +10,6 @@ ghost use Rattle.record.specs.View.{as-list-record};
 ghost use Rattle.rules.specs.State.{position-in, priority-in};
 ghost use Rattle.rules.specs.Ready.{ended-at, waiting-at, ready-at};
 ghost use Rattle.rules.specs.Turn.{yields-to, lowest-of};
-use crate::MAX_STATIONS;
 use crate::priority;
 use record::ListRecord;
 use record::Record;
@@ -47,7 +46,7 @@ pub fn readiness(list: &[u8], vars: &[u32; 32], positions: [u16; 8]) -> [bool; 8
 {
     let mut all = [false; 8];
     let mut j: usize = 0;
-    while j < MAX_STATIONS {
+    while j < Record::MAX_STATIONS {
         let e = ListRecord::at(list, positions[j] as usize);
         all[j] = ready_at(vars, e);
         j += 1;
@@ -100,7 +99,7 @@ pub fn pick_refusal(ready: bool, lowest: bool, above: bool) -> u8
 pub fn ready_in(all: [bool; 8], j: usize) -> bool
     ensures { λ r. ⌜ r ≡ getD all j false ⌝ }
 {
-    if j < MAX_STATIONS {
+    if j < Record::MAX_STATIONS {
         return all[j];
     }
     false

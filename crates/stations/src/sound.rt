@@ -7,9 +7,9 @@ ghost use Rattle.rules.specs.Words.{each, tally};
 ghost use Rattle.rules.specs.Names.{max-stations};
 ghost use Rattle.rules.specs.List.{is-at};
 ghost use Rattle.rules.specs.State.{position-in, priority-in, few-low-in, empty-in};
-use crate::MAX_STATIONS;
 use crate::position;
 use crate::priority;
+use record::Record;
 
 // Whether each of n stations stands at an outside record of its own, in a list whose first later record is at later.
 pub fn placed(list: &[u8], later: usize, positions: [u16; 8], n: u8) -> bool
@@ -91,7 +91,7 @@ pub fn empty(positions: [u16; 8], priorities: [i16; 8], n: u8) -> bool
     ensures { λ r. ⌜ r ≡ each (λ i. empty-in positions priorities (n + i)) (max-stations - n) ⌝ }
 {
     let mut j = n as usize;
-    while j < MAX_STATIONS {
+    while j < Record::MAX_STATIONS {
         if !empty_at(positions, priorities, j) {
             return false;
         }

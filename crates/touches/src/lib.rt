@@ -12,12 +12,6 @@ ghost use Rattle.touches.specs.Touched.{searched, body-within, touched-b
 use record::ListRecord;
 use record::Record;
 
-// Variables are numbered from 0 to 31.
-const VARIABLES: u32 = 32;
-
-// Records of a list that are searched for a body, at most: a sound list has no more.
-const MAX_LIST: usize = 1032;
-
 // What is touched: variable v is read, or written, where its place v says so.
 pub struct Touched {
     pub reads: [bool; 32],
@@ -58,7 +52,7 @@ impl Touched {
         ensures { λ r. ⌜ r ≡ with-places (now (list .entry)) self (body-within (now (list .entry)) t1) ⌝ }
     {
         let count = searched(list);
-        let mut wanted = [false; MAX_LIST];
+        let mut wanted = [false; Record::MAX_LIST];
         let mut end = want(&mut wanted, 0, count, t1);
         let mut place = t1;
         while place < end {
@@ -74,19 +68,19 @@ impl Touched {
     }
 }
 
-// The number of records that are searched for a body.
+// The number of records that are searched for a body: no more than a sound list may have.
 fn searched(list: &[u8]) -> usize
     ensures { λ r. ⌜ r ≡ searched (now (list .entry)) ⌝ }
 {
     let count = list.len() / 16;
-    if count <= MAX_LIST {
+    if count <= Record::MAX_LIST {
         return count;
     }
-    MAX_LIST
+    Record::MAX_LIST
 }
 
 // A target t is wanted too, where it lies below count. Answers the end of the places wanted.
-fn want(wanted: &mut [bool; MAX_LIST], end: usize, count: usize, t: usize) -> usize
+fn want(wanted: &mut [bool; Record::MAX_LIST], end: usize, count: usize, t: usize) -> usize
     requires { ⌜ (end ≤ count) × (count ≤ max-list) × (length (now wanted) ≡ max-list) ⌝ }
     ensures { λ r. ⌜ Wants count t end (now (wanted .entry)) r (now (wanted .exit)) ⌝ }
 {
@@ -105,8 +99,9 @@ fn added(before: [bool; 32], test: bool, v: u32) -> [bool; 32]
 {
     let mut after = before;
     if test {
-        if v < VARIABLES {
-            after[v as usize] = true;
+        let place = v as usize;
+        if place < Record::VARIABLES {
+            after[place] = true;
         }
     }
     after

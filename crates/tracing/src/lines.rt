@@ -9,16 +9,14 @@ ghost use Rattle.run.specs.View.{as-state};
 ghost use Rattle.tracing.specs.View.{max-line, text-of};
 ghost use Rattle.tracing.specs.Line.{line-of};
 use crate::Text;
+use record::Record;
 use run::State;
-
-// Stations, at most.
-const MAX_STATIONS: u8 = 8;
 
 // The line of a state; nothing for a state of more than 8 stations, which no run reaches.
 pub fn line(state: State, list: &[u8]) -> Text
     ensures { λ r. ⌜ text-of r ≡ line-of (now (list .entry)) (as-state state) ⌝ }
 {
-    if MAX_STATIONS < state.n {
+    if Record::MAX_STATIONS < state.n as usize {
         return Text::empty();
     }
     let lit = lights::lights(state, list);

@@ -2,11 +2,12 @@
 ghost use mathlib.Core.Path.{_≡_};
 ghost use Rattle.rules.specs.Trace.{taken-pick, wrong-picks};
 ghost use Rattle.run.specs.View.{as-state, as-stepped};
+use record::Record;
 use run::Outcome;
 use run::State;
 
 // Bytes of a picks file, at most.
-const MAX_PICKS: usize = 8192;
+const MAX_PICKS: usize = 2 * Record::MAX_STEPS as usize;
 
 // The station byte of a pick that takes the last step back, with reset 0.
 const UNDO: u8 = 255;

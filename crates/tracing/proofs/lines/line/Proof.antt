@@ -5,6 +5,9 @@ use borrow.Author.Needs.{needs}
 use Rattle.tracing.proofs.lines.line.Statement.{statement}
 use Rattle.tracing.proofs.lines.line.Tie as tie
 
+cast-if1 : tie.Need-cast-if1
+cast-if1 c = search needs
+
 empty-requires : tie.Need-empty-requires
 empty-requires c κs = search needs
 
@@ -24,4 +27,4 @@ returns-2 c =
     rw (le-leb _ _ (lit .before .if1 .left), ← lit .lights .ensures) (c .spelled .ensures)
 
 pub line-spec : {M : Type 1} → statement M
-line-spec = tie.close (tie.spec empty-requires returns lights-requires spelled-requires returns-2)
+line-spec = tie.close (tie.spec cast-if1 empty-requires returns lights-requires spelled-requires returns-2)
