@@ -96,7 +96,7 @@ fn initial_right(list: &[u8], p: usize) -> bool
     let e = ListRecord::at(list, p);
     let own = e.own;
     (own.kind == Record::SET)
-        & own.fields_right()
+        & table::fields_right(own)
         & (e.inside == 0)
         & (e.t1 == 0)
         & (e.t2 == 0)
@@ -161,7 +161,7 @@ fn own_right(own: Record) -> bool
     if own.kind == Record::STOP {
         return (own.a == 0) & (own.b == 0) & (own.op == 0) & (own.k == 0);
     }
-    own.fields_right()
+    table::fields_right(own)
 }
 
 // Whether an outside record may have this kind.

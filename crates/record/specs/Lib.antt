@@ -1,3 +1,2 @@
--- The code's records and the numbers of its table, set beside the rules.
+-- The code's records, set beside the rules.
 pub mod View
-pub mod Numbers

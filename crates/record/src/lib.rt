@@ -1,12 +1,11 @@
 // Records of a written sequence and of a built-in list, decoded from their bytes. Past the end of the bytes everything is zero.
-// `names` has the document's numbers by name, `fields` what a record's fields may hold.
+// `names` has the document's numbers by name.
 ghost use mathlib.Core.Path.{_≡_};
 ghost use Prim.Native.Nat.{_+_, _*_, _≤_};
 ghost use lib.ListN.{length, getD};
 ghost use Rattle.rules.specs.Records.{record-from, record-at, list-record-at};
 ghost use Rattle.record.specs.View.{as-record, as-list-record, eight-from, list-record-of};
 
-mod fields;
 mod names;
 
 // Eight bytes of a written sequence: kind, a, b, op, then k.

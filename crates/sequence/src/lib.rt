@@ -66,7 +66,7 @@ fn field_place(file: &[u8]) -> usize
 {
     let mut at: usize = 0;
     while at < file.len() / 8 {
-        if !Record::at(file, at).fields_right() {
+        if !table::fields_right(Record::at(file, at)) {
             return at;
         }
         at += 1;

@@ -1,4 +1,4 @@
--- `record::fields::rules_of` meets its contract: antt makes the table anew from the rules, and finds the same digits at every kind
+-- `table::rules_of` meets its contract: antt makes the table anew from the rules, and finds the same digits at every kind
 -- and op.
 -- Assumes nothing.
 use mathlib.Core.Path.{ap, _∙_}
@@ -10,9 +10,9 @@ use borrow.Author.Needs.{needs}
 use Rattle.rules.specs.Words.{values}
 use Rattle.rules.specs.Fields.{rules-of}
 use Rattle.laws.proofs.Places.{getD-values}
-use Rattle.record.specs.Numbers.{digits}
-use Rattle.record.proofs.fields.rules_of.Statement.{statement}
-use Rattle.record.proofs.fields.rules_of.Tie as tie
+use Rattle.table.specs.Numbers.{digits}
+use Rattle.table.proofs.rules_of.Statement.{statement}
+use Rattle.table.proofs.rules_of.Tie as tie
 
 -- a row as the rules have it
 row : ℕ → List ℕ

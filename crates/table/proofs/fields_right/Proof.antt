@@ -1,4 +1,4 @@
--- `record::Record::fields_right` meets its contract: each field is tested by its own digit of the rules, and outside the table the
+-- `table::fields_right` meets its contract: each field is tested by its own digit of the rules, and outside the table the
 -- rules refuse, as the code does.
 -- Assumes nothing.
 use mathlib.Core.Path.{_≡_}
@@ -7,11 +7,11 @@ use native.Mathlib.Omega.{arith}
 use lib.Dec.{lit<}
 use borrow.Author.Needs.{needs}
 use Rattle.rules.specs.Fields.{Rule, naught, variable, free, outside, rules-of, fields-right}
-use Rattle.record.specs.Numbers.{rule-number, digits}
+use Rattle.table.specs.Numbers.{rule-number, digits}
 use Rattle.record.specs.View.{as-record}
-use Rattle.record.proofs.Outside.{kind-outside, op-outside}
-use Rattle.record.proofs.Record.fields_right.Statement.{statement}
-use Rattle.record.proofs.Record.fields_right.Tie as tie
+use Rattle.table.proofs.Outside.{kind-outside, op-outside}
+use Rattle.table.proofs.fields_right.Statement.{statement}
+use Rattle.table.proofs.fields_right.Tie as tie
 
 -- a rule's number is one digit to base four
 digit : (rule : Rule) → rule-number rule < 4
@@ -49,8 +49,8 @@ unfolding fields-right
 returns c =
     let tested = c .before .before .before .before in
     let found = tested .before .before in
-    let self = found .before .before .before .args .self in
-    let rules = rules-of (self .kind) (self .op) in
+    let own = found .before .before .before .args .own in
+    let rules = rules-of (own .kind) (own .op) in
     let e : found .rules-of .result ≡ digits rules = found .rules-of .ensures in
     let a = digit (rules .a) in
     let b = digit (rules .b) in
@@ -64,10 +64,10 @@ returns c =
     )
 
 returns-2 : tie.Need-returns-2
-returns-2 c = op-outside (as-record (c .before .before .args .self)) (c .if2 .left)
+returns-2 c = op-outside (as-record (c .before .before .args .own)) (c .if2 .left)
 
 returns-3 : tie.Need-returns-3
-returns-3 c = kind-outside (as-record (c .before .args .self)) (c .if1 .left)
+returns-3 c = kind-outside (as-record (c .before .args .own)) (c .if1 .left)
 
 pub fields-right-spec : {M : Type 1} → statement M
 fields-right-spec =

@@ -1,9 +1,9 @@
--- `record::fields::obeyed` meets its contract: a value of four bytes obeys a rule when it is below the least number that breaks it.
+-- `table::obeyed` meets its contract: a value of four bytes obeys a rule when it is below the least number that breaks it.
 -- Assumes nothing.
 use native.Mathlib.Omega.{arith}
 use borrow.Author.Needs.{needs}
-use Rattle.record.proofs.fields.obeyed.Statement.{statement}
-use Rattle.record.proofs.fields.obeyed.Tie as tie
+use Rattle.table.proofs.obeyed.Statement.{statement}
+use Rattle.table.proofs.obeyed.Tie as tie
 
 past-requires : tie.Need-past-requires
 past-requires c κs = search needs

@@ -1,4 +1,4 @@
--- `record::fields::past` meets its contract: in each arm one rule has that number, and no other. Assumes nothing.
+-- `table::past` meets its contract: in each arm one rule has that number, and no other. Assumes nothing.
 use mathlib.Core.Path.{_≡_, refl, sym, _∙_}
 use Prim.Native.Nat.{ℕ, _<_, _^_}
 use native.Mathlib.Omega.{arith}
@@ -6,9 +6,9 @@ use lib.Dec.{eqb, ltb}
 use borrow.Author.Tests.{eqb-true, eqb-false, lt-ltb, le-ltb}
 use Rattle.laws.proofs.Choice.{by-test}
 use Rattle.rules.specs.Fields.{Rule, naught, variable, free, outside, obeys}
-use Rattle.record.specs.Numbers.{rule-number}
-use Rattle.record.proofs.fields.past.Statement.{statement}
-use Rattle.record.proofs.fields.past.Tie as tie
+use Rattle.table.specs.Numbers.{rule-number}
+use Rattle.table.proofs.past.Statement.{statement}
+use Rattle.table.proofs.past.Tie as tie
 
 -- a number is right for the rule of a number if it is right for each rule that has this number
 by-number :

@@ -3,31 +3,29 @@ ghost use mathlib.Core.Path.{_≡_};
 ghost use Prim.Native.Nat.{ℕ, _<_, _^_};
 ghost use lib.Dec.{ltb};
 ghost use Rattle.rules.specs.Fields.{Rule, obeys, rules-of, fields-right};
 ghost use Rattle.record.specs.View.{as-record};
-ghost use Rattle.record.specs.Numbers.{rule-number, digits};
-use crate::Record;
+ghost use Rattle.table.specs.Numbers.{rule-number, digits};
+use record::Record;
 
 // A field holds numbers below 2^32.
 const NUMBERS: u64 = 4294967296;
 
-impl Record {
-    // Whether the record is in the document's table of kinds. No kind above 10 is in it, and no op above 7.
-    pub fn fields_right(self) -> bool
-        ensures { λ r. ⌜ r ≡ fields-right (as-record self) ⌝ }
-    {
-        let kind = self.kind;
-        let op = self.op;
-        if kind < 11 {
-            if op < 8 {
-                let rules = rules_of(kind, op);
-                return obeyed(rules / 64, self.a as u32)
-                    & obeyed(rules / 16 % 4, self.b as u32)
-                    & obeyed(rules / 4 % 4, op as u32)
-                    & obeyed(rules % 4, self.k);
-            }
+// Whether a record is in the document's table of kinds. No kind above 10 is in it, and no op above 7.
+pub fn fields_right(own: Record) -> bool
+    ensures { λ r. ⌜ r ≡ fields-right (as-record own) ⌝ }
+{
+    let kind = own.kind;
+    let op = own.op;
+    if kind < 11 {
+        if op < 8 {
+            let rules = rules_of(kind, op);
+            return obeyed(rules / 64, own.a as u32)
+                & obeyed(rules / 16 % 4, own.b as u32)
+                & obeyed(rules / 4 % 4, op as u32)
+                & obeyed(rules % 4, own.k);
         }
-        false
     }
+    false
 }
 
 // What the table says of a kind and an op: the rules of a, b, op and k.

@@ -1,0 +1,2 @@
+-- A law that the proof of the test rests on.
+pub mod Outside
