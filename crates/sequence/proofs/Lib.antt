@@ -1,10 +1,4 @@
-pub mod Kind
 pub mod Among
-pub mod Nested
-pub mod Turn
-pub mod Around
-pub mod Walk
-pub mod File
 pub mod Open
 pub mod Stations
 pub mod Tests

@@ -6,17 +6,17 @@ use Prim.Native.Nat.{ℕ, _*_, _%_, _≤_, _<_, zero-le}
 use native.Mathlib.Omega.{arith}
 use lib.Dec.{eqb}
 use lib.ListN.{length}
-use borrow.Author.Tests.{ltb-false, lt-ltb, le-ltb}
+use borrow.Author.Tests.{ltb-false, lt-ltb, le-ltb, le-leb}
 use Rattle.rules.specs.Words.{judge}
 use Rattle.rules.specs.Names.{LENGTH, FIELD, COUNT, SHAPE, DEPTH, max-records}
 use Rattle.rules.specs.Records.{record-count}
 use Rattle.rules.specs.Shape.{Stand, initial, stride, is-wrong, wrong-at, well-shaped, shape-place}
 use Rattle.rules.specs.Check.{kinds, wrong-length, field-place, depth-place, check}
 use Rattle.laws.proofs.Choice.{by-test}
-use Rattle.sequence.specs.declared.shape.Shape.the-variants.{Whole, Broken}
+use Rattle.shape.specs.declared.Shape.the-variants.{Whole, Broken}
+use Rattle.shape.specs.Reading.{shape-of, file-shape}
+use Rattle.shape.proofs.Kind.{length-kinds}
 use Rattle.sequence.specs.Answer.{answer, wrong-count}
-use Rattle.sequence.specs.Reading.{shape-of}
-use Rattle.sequence.proofs.Kind.{length-kinds}
 
 -- a file that is not well shaped, and its place
 well : (kinds : List ℕ) → shape-of kinds ≡ Whole → not (well-shaped kinds) ≡ false
@@ -61,6 +61,10 @@ module _ (file : List ℕ) where
 
     pub few : record-count file ≤ max-records
     few = omega (arith, short)
+
+    -- and the file's shape is read
+    pub shape-read : file-shape file ≡ shape-of (kinds file)
+    shape-read = rw (le-leb _ _ short)
 
     pub field-refuses : (place : ℕ) → place ≡ field-place file → place < record-count file → check file ≡ answer FIELD place
     unfolding check judge

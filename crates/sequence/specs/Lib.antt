@@ -1,4 +1,3 @@
--- The code's answer set beside the rules', what is promised of it, and what reading a part finds.
+-- The code's answer set beside the rules', and what is promised of it.
 pub mod Answer
 pub mod Promises
-pub mod Reading

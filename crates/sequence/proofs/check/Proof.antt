@@ -8,10 +8,11 @@ use native.Mathlib.Omega.{arith}
 use borrow.Author.Needs.{needs}
 use Rattle.rules.specs.Records.{record-count}
 use Rattle.rules.specs.Check.{kinds, wrong-length, field-place}
-use Rattle.sequence.specs.declared.shape.Shape.the-variants.{Whole}
+use Rattle.shape.specs.declared.Shape.{Shape}
+use Rattle.shape.specs.declared.Shape.the-variants.{Whole}
+use Rattle.shape.specs.Reading.{shape-of}
 use Rattle.sequence.specs.Answer.{wrong-count}
-use Rattle.sequence.specs.Reading.{shape-of}
-use Rattle.sequence.proofs.Tests.{short, few, shape-within, length-refuses, field-refuses, count-refuses, shape-refuses, depth-refuses, accepts}
+use Rattle.sequence.proofs.Tests.{few, shape-read, shape-within, length-refuses, field-refuses, count-refuses, shape-refuses, depth-refuses, accepts}
 use Rattle.sequence.proofs.check.Statement.{statement}
 use Rattle.sequence.proofs.check.Tie as tie
 
@@ -28,8 +29,12 @@ fields-passed c = rw (c .before .field-place .ensures) at (c .if2 .left)
 count-passed : (c : tie.Else3) → wrong-count (bytes (c .before .before .before .before)) ≡ false
 count-passed c = sym (c .before .wrong-count .ensures) ∙ c .if3 .left
 
+-- what is found of the shape is the rules'
+found : (c : tie.After-of) (shape : Shape) → c .of .result ≡ shape → shape-of (kinds (bytes (c .before .before .before .before .before))) ≡ shape
+found c shape e = sym (c .of .ensures ∙ shape-read _ (length-passed (c .before .before .before .before .before))) ∙ e
+
 shape-passed : (c : tie.After-enum-told) → shape-of (kinds (bytes (c .before .before .before .before .before .before .before))) ≡ Whole
-shape-passed c = sym (c .before .before .read-file .ensures) ∙ c .enum-told .given .1
+shape-passed c = found (c .before .before) Whole (c .enum-told .given .1)
 
 wrong-length-requires : tie.Need-wrong-length-requires
 wrong-length-requires c κs = search needs
@@ -70,8 +75,8 @@ returns-3 c =
     let wrong = sym (t .before .wrong-count .ensures) ∙ t .if3 .taken in
     c .new3 .ensures ∙ sym (count-refuses _ (length-passed (e .before .before)) (fields-passed e) wrong)
 
-read-file-requires : tie.Need-read-file-requires
-read-file-requires c κs = short _ (length-passed (c .before .before .before .before))
+of-requires : tie.Need-of-requires
+of-requires c κs = search needs
 
 enum-known-place : tie.Need-enum-known-place
 enum-known-place c = search needs
@@ -80,7 +85,7 @@ cast-new-2 : tie.Need-cast-new-2
 cast-new-2 c =
     let r = c .before .before .before in
     let h = few _ (length-passed (r .before .before .before .before .before)) in
-    let l = shape-within _ _ (sym (r .read-file .ensures) ∙ c .before .place .given .1) in
+    let l = shape-within _ _ (found r _ (c .before .place .given .1)) in
     omega arith
 
 new-requires-4 : tie.Need-new-requires-4
@@ -91,7 +96,7 @@ returns-4 c =
     let t = c .before in
     let r = t .before .before .before in
     let e = r .before .before .before in
-    let broken = sym (r .read-file .ensures) ∙ t .before .place .given .1 in
+    let broken = found r _ (t .before .place .given .1) in
     c .new4 .ensures ∙ sym (shape-refuses _ (length-passed (e .before .before)) (fields-passed e) (count-passed (r .before)) _ broken)
 
 enum-told : tie.Need-enum-told
@@ -145,7 +150,7 @@ check-spec =
     wrong-count-requires
     new-requires-3
     returns-3
-    read-file-requires
+    of-requires
     enum-known-place
     cast-new-2
     new-requires-4
