@@ -18,7 +18,8 @@ use Rattle.rules.specs.Build.{bare, listed, start-of, laid, bytes-of}
 use Rattle.reading.specs.Reading.{flat, Proper, end, skips, assigns, branches, loops, awaits}
 use Rattle.built.proofs.Bytes.{length-bytes-of}
 use Rattle.built.proofs.Lengths.{length-laid}
-use Rattle.laying.specs.Layout.{Laid, stepped, pushed, switched, popped, put-at, lay-record, lay-records}
+use Rattle.layout.specs.Layout.{stepped, pushed, switched, popped}
+use Rattle.laying.specs.Laid.{Laid, put-at, lay-record, lay-records}
 use Rattle.laws.proofs.Written.{written-none, length-written}
 use Rattle.build.proofs.Written.{records-before, record-before}
 use Rattle.build.proofs.Parts.{Fits, loops-of, Among, among-left, among-right}

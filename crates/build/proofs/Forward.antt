@@ -16,7 +16,7 @@ use Rattle.rules.specs.Records.{Record}
 use Rattle.rules.specs.Trees.{Statements, skip, assign, branch, loop, await, size}
 use Rattle.rules.specs.Build.{bare}
 use Rattle.reading.specs.Reading.{flat, Proper, end, skips, assigns, branches, loops, awaits}
-use Rattle.laying.specs.Loops.{Sought, more, sought, noted, seek-record, seek-records}
+use Rattle.loops.specs.Loops.{Sought, more, sought, noted, seek-record, seek-records}
 use Rattle.build.proofs.Parts.{Fits, loops-of, Among}
 
 pub seek-append : (a b : List Record) (x : Sought) → seek-records (a ++ b) x ≡ seek-records b (seek-records a x)

@@ -8,7 +8,8 @@ use lib.ListN.{getD}
 use Rattle.rules.specs.Names.{STATION, SKIP, SET, IF, ELSE, FI, WHILE, OD, AWAIT, END, STOP, no-station}
 use Rattle.rules.specs.Records.{Record}
 use Rattle.rules.specs.Build.{bare, listed}
-use Rattle.laying.specs.Layout.{Laid, stepped, pushed, switched, popped, turned, taken, lays, record-for, put-at, lay-record}
+use Rattle.layout.specs.Layout.{stepped, pushed, switched, popped, turned, taken, lays, record-for}
+use Rattle.laying.specs.Laid.{Laid, put-at, lay-record}
 
 module _ (places : List ℕ) (x : Laid) where
   module _ (numbered : eqb (x .state .station) no-station ≡ false) where

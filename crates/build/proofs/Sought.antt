@@ -10,7 +10,7 @@ use Rattle.rules.specs.Trees.{Statements, size}
 use Rattle.rules.specs.Build.{bare}
 use Rattle.reading.specs.Reading.{flat, flat-stations, flat-file, Stations, a-station, Sets, a-set}
 use Rattle.built.proofs.Lengths.{extent}
-use Rattle.laying.specs.Loops.{Sought, seek-records, nothing-sought}
+use Rattle.loops.specs.Loops.{Sought, seek-records, nothing-sought}
 use Rattle.build.proofs.Parts.{loops-of}
 use Rattle.build.proofs.Forward.{Passed, on, seek-append, seek-station, seek-set, passed-none, passed-one, passed-then, ahead-then, first-chain, none-chain, find-all}
 use Rattle.build.proofs.Stations.{station-loops, Shallow}

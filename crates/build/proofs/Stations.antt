@@ -18,7 +18,8 @@ use Rattle.laws.proofs.Places.{values-suc}
 use Rattle.reading.specs.Reading.{flat, flat-stations, flat-file, Proper, Stations, a-station, Sets, a-set}
 use Rattle.built.proofs.Bytes.{length-bytes-of}
 use Rattle.built.proofs.Lengths.{length-laid, extent, length-bodies}
-use Rattle.laying.specs.Layout.{Laid, begun, stepped, turned, put-at, lay-record, lay-records, lay-inits}
+use Rattle.layout.specs.Layout.{begun, stepped, turned}
+use Rattle.laying.specs.Laid.{Laid, put-at, lay-record, lay-records, lay-inits}
 use Rattle.laws.proofs.Written.{written-none, length-written}
 use Rattle.build.proofs.Written.{records-before, record-before}
 use Rattle.build.proofs.Parts.{Fits, loops-of, Among, among-left, among-right}

@@ -1,24 +1,20 @@
--- What a turn of each loop does: a record more is counted, sought or laid, or an INIT record more. Assumes nothing.
-use mathlib.Core.Path.{_≡_, refl, ap, _∙_}
+-- What a turn of each loop does: a record more is counted or laid, or an INIT record more. Assumes nothing.
+use mathlib.Core.Path.{_≡_, ap, _∙_}
 use mathlib.Core.Bool.{Bool, true, false}
-use mathlib.Core.List.{List, [], _∷_, _++_}
+use mathlib.Core.List.{List, _∷_}
 use Prim.Native.Nat.{ℕ, zero, suc, _+_, _-_, _≤_, _<_}
 use native.Mathlib.Nat.{not-suc-le-zero}
 use native.Mathlib.Numerals.{add-one}
 use native.Mathlib.Omega.{arith}
-use lib.ListN.{length, getD, drop, drop-of-length-le, length-set}
+use lib.ListN.{length, getD, drop, drop-of-length-le}
 use lib.Seq.{drop-cons}
-use lib.Dec.{eqb}
 use Rattle.rules.specs.Words.{tally, values}
-use Rattle.rules.specs.Names.{OD, INIT}
+use Rattle.rules.specs.Names.{INIT}
 use Rattle.rules.specs.Records.{Record}
 use Rattle.rules.specs.Build.{bare, listed}
-use Rattle.laws.proofs.Choice.{by-test}
-use Rattle.laws.proofs.Places.{tally-suc, length-values, getD-values, values-suc}
-use Rattle.laying.specs.declared.loops.Seeking.{Seeking}
-use Rattle.laying.specs.declared.layout.Laying.{Laying}
-use Rattle.laying.specs.Loops.{Sought, sought, noted, seek-record, seek-records}
-use Rattle.laying.specs.Layout.{Laid, lay-record, lay-records, put-at, lay-inits}
+use Rattle.laws.proofs.Places.{tally-suc, length-values, getD-values}
+use Rattle.layout.specs.declared.Laying.{Laying}
+use Rattle.laying.specs.Laid.{Laid, lay-record, lay-records, put-at, lay-inits}
 
 -- from the first record to the last: the next one is counted, or not
 pub counted : (f : ℕ → Bool) (n i : ℕ) → n ≡ tally f i → f i ≡ true → n + 1 ≡ tally f (i + 1)
@@ -26,24 +22,6 @@ counted f n i h e = rw (add-one n, add-one i, tally-suc f i, e) (ap suc h)
 
 pub passed : (f : ℕ → Bool) (n i : ℕ) → n ≡ tally f i → f i ≡ false → n ≡ tally f (i + 1)
 passed f n i h e = rw (add-one i, tally-suc f i, e) h
-
--- the loops' records
-seek-last : (rs : List Record) (r : Record) (x : Sought) → seek-records (rs ++ (r ∷ [])) x ≡ seek-record r (seek-records rs x)
-unfolding seek-records
-seek-last [] r x = refl
-seek-last (q ∷ rs) r x = seek-last rs r (seek-record q x)
-
-pub sought-more :
-    (f : ℕ → Record) (i : ℕ) (x start : Sought) (s : Seeking) (places : List ℕ) →
-    x ≡ seek-records (values f i) start →
-    s ≡ sought (f i .kind) (x .seeking) → places ≡ noted (f i .kind) (x .seeking) (x .places) →
-    _≡_ {A = Sought} (record { seeking = s; places = places }) (seek-records (values f (i + 1)) start)
-unfolding seek-record
-sought-more f i x start s places h a b = rw (add-one i, values-suc f i, seek-last (values f i) (f i) start, ← h, a, b)
-
-pub length-noted : (kind : ℕ) (s : Seeking) (places : List ℕ) → length (noted kind s places) ≡ length places
-unfolding noted
-length-noted kind s places = by-test (eqb kind OD) (λ e. rw (e, length-set)) (λ e. rw e)
 
 -- from the last record to the first
 pub laid-none :

@@ -2,13 +2,11 @@
 // stations. Each function is defined on any file; that the list is the rules' where the file was accepted is proved in the crate `build`.
 ghost use mathlib.Core.Path.{_≡_};
 ghost use Rattle.rules.specs.Records.{records};
-ghost use Rattle.laying.specs.Layout.{lay-record, lay-records, lay-inits, laid-out, step-count};
+ghost use Rattle.laying.specs.Laid.{lay-record, lay-records, lay-inits, laid-out, step-count};
 ghost use Rattle.record.specs.View.{as-record};
-use crate::layout::Laying;
+use layout::Laying;
 use record::Record;
 
-mod layout;
-mod loops;
 mod put;
 
 // One record of the file: what is laid for it is put before what was laid last.

@@ -2,7 +2,7 @@
 ghost use mathlib.Core.Path.{_≡_};
 ghost use Rattle.rules.specs.Records.{list-record-bytes};
 ghost use Rattle.record.specs.View.{as-list-record};
-ghost use Rattle.laying.specs.Layout.{put-at};
+ghost use Rattle.laying.specs.Laid.{put-at};
 use record::ListRecord;
 
 // The sixteen bytes of a list record.

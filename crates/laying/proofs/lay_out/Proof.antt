@@ -2,7 +2,7 @@
 -- order, and each call's contract gives its part.
 -- Assumes nothing.
 use borrow.Author.Needs.{needs}
-use Rattle.laying.specs.Layout.{laid-out}
+use Rattle.laying.specs.Laid.{laid-out}
 use Rattle.laying.proofs.lay_out.Statement.{statement}
 use Rattle.laying.proofs.lay_out.Tie as tie
 

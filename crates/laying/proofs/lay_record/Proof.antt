@@ -2,7 +2,7 @@
 -- afterwards.
 -- Assumes nothing.
 use borrow.Author.Needs.{needs}
-use Rattle.laying.specs.Layout.{lay-record}
+use Rattle.laying.specs.Laid.{lay-record}
 use Rattle.laying.proofs.lay_record.Statement.{statement}
 use Rattle.laying.proofs.lay_record.Tie as tie
 

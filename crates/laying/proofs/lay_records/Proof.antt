@@ -7,7 +7,7 @@ use native.Mathlib.Omega.{arith}
 use lib.ListN.{length, drop}
 use borrow.Author.Needs.{needs}
 use Rattle.rules.specs.Records.{record-at, records, record-count}
-use Rattle.laying.specs.Layout.{Laid, lay-records}
+use Rattle.laying.specs.Laid.{Laid, lay-records}
 use Rattle.laying.proofs.Passes.{laid-none, laid-before}
 use Rattle.laying.proofs.lay_records.Statement.{statement}
 use Rattle.laying.proofs.lay_records.Tie as tie

@@ -9,7 +9,7 @@ use lib.ListN.{length, length-set}
 use lib.Seq.{paste, paste-zero, paste-suc}
 use borrow.Author.Needs.{needs}
 use borrow.Author.Tests.{le-leb, lt-leb}
-use Rattle.laying.specs.Layout.{put-at}
+use Rattle.laying.specs.Laid.{put-at}
 use Rattle.laying.proofs.Written.{pasted}
 use Rattle.laying.proofs.put.put.Statement.{statement}
 use Rattle.laying.proofs.put.put.Tie as tie

@@ -1,0 +1,28 @@
+-- `layout::Laying::lays` meets its contract: `is_step` answers for the five kinds of steps, and the tests that are left
+-- are the definition's.
+-- Assumes nothing.
+use borrow.Author.Needs.{needs}
+use borrow.Author.Tests.{eq-eqb, ne-eqb}
+use Rattle.layout.specs.Layout.{lays}
+use Rattle.layout.proofs.Laying.lays.Statement.{statement}
+use Rattle.layout.proofs.Laying.lays.Tie as tie
+
+is-step-requires : tie.Need-is-step-requires
+is-step-requires c κs = search needs
+
+returns : tie.Need-returns
+unfolding lays
+returns c = rw (← c .before .is-step .ensures, c .if1 .taken)
+
+returns-2 : tie.Need-returns-2
+unfolding lays
+returns-2 c =
+    let tested = c .before .before in
+    rw (← tested .before .is-step .ensures, tested .if1 .left, eq-eqb _ _ (c .before .if2 .taken))
+
+returns-3 : tie.Need-returns-3
+unfolding lays
+returns-3 c = rw (← c .before .before .is-step .ensures, c .before .if1 .left, ne-eqb _ _ (c .if2 .left))
+
+pub lays-spec : {M : Type 1} → statement M
+lays-spec = tie.close (tie.spec is-step-requires returns returns-2 returns-3)

@@ -1,0 +1,318 @@
+// Laying out a list. The records of the file are read from the last to the first, and the records of the list are laid from its end to
+// its start, so that the step that comes next is always known. Only a loop's last step leads back: its WHILE's place is looked up.
+ghost use mathlib.Core.Path.{_≡_};
+ghost use Prim.Native.Nat.{_-_};
+ghost use lib.ListN.{getD};
+ghost use Rattle.record.specs.View.{as-record, as-list-record};
+ghost use Rattle.rules.specs.Build.{bare, listed as listedOf};
+ghost use mathlib.Core.List.{[], _∷_};
+ghost use Rattle.rules.specs.Words.{among};
+ghost use Rattle.rules.specs.Names.{SKIP, SET, IF, WHILE, AWAIT, INIT, STOP};
+ghost use Rattle.layout.specs.Layout.{end-of-file, begun, stepped, pushed, switched, popped, turned, taken, lays as laysOf, record-for};
+use record::ListRecord;
+use record::Record;
+
+// Places for what is known of open parts, from 1 on: at most sixteen are open.
+const PARTS: usize = Record::MAX_DEPTH + 1;
+
+// What is known while a list is laid out. Each part that is open has a place in two arrays.
+pub struct Laying {
+    // where the record laid last stands
+    pub place: u16,
+    // the step that comes after the record read next
+    pub next: u16,
+    // the station, or 255 in the initial part
+    pub station: u8,
+    // 1 in a body
+    pub inside: u8,
+    // loops whose OD is still to be read
+    pub loops: usize,
+    // parts that are open
+    pub depth: usize,
+    // by part, what comes after the statement that it belongs to
+    pub after: [u16; PARTS],
+    // by part, where the second branch of an IF starts
+    pub second: [u16; PARTS],
+    // by station, where it starts
+    pub starts: [u16; 8],
+}
+
+// One less, and 0 of 0.
+pub fn less(x: u16) -> u16
+    ensures { λ r. ⌜ r ≡ x - 1 ⌝ }
+{
+    if x == 0 {
+        return 0;
+    }
+    x - 1
+}
+
+// The same of a count.
+pub fn one_less(x: usize) -> usize
+    ensures { λ r. ⌜ r ≡ x - 1 ⌝ }
+{
+    if x == 0 {
+        return 0;
+    }
+    x - 1
+}
+
+// Entry number i; 0 past the last.
+pub fn entry(entries: &[u16], i: usize) -> u16
+    ensures { λ r. ⌜ r ≡ getD (now (entries .entry)) i 0 ⌝ }
+{
+    if i < entries.len() {
+        return entries[i];
+    }
+    0
+}
+
+impl Laying {
+    // Before the last record of the file is read: a list of so many records, stations and loops.
+    pub fn begin(place: u16, stations: u8, loops: usize) -> Laying
+        ensures { λ r. ⌜ r ≡ begun place stations loops ⌝ }
+    {
+        Laying {
+            place,
+            next: 0,
+            station: stations,
+            inside: 0,
+            loops,
+            depth: 0,
+            after: [0u16; PARTS],
+            second: [0u16; PARTS],
+            starts: [0u16; 8],
+        }
+    }
+
+    // A step is laid, and is what comes next.
+    fn step(mut self) -> Laying
+        ensures { λ r. ⌜ r ≡ stepped self ⌝ }
+    {
+        let place = less(self.place);
+        self.place = place;
+        self.next = place;
+        self
+    }
+
+    // A closing record: a part opens, and `next` comes after its last step.
+    fn push(mut self, next: u16, inside: u8, loops: usize) -> Laying
+        ensures { λ r. ⌜ r ≡ pushed next inside loops self ⌝ }
+    {
+        let depth = self.depth;
+        if depth < Record::MAX_DEPTH {
+            self.after[depth + 1] = self.next;
+            self.depth = depth + 1;
+        }
+        self.next = next;
+        self.inside = inside;
+        self.loops = loops;
+        self
+    }
+
+    // What comes after the innermost part's statement; 0 past the sixteenth.
+    fn coming(self) -> u16
+        ensures { λ r. ⌜ r ≡ getD (self .after) (self .depth) 0 ⌝ }
+    {
+        let after = self.after;
+        entry(&after, self.depth)
+    }
+
+    // Where the innermost part's second branch starts; 0 past the sixteenth.
+    fn other(self) -> u16
+        ensures { λ r. ⌜ r ≡ getD (self .second) (self .depth) 0 ⌝ }
+    {
+        let second = self.second;
+        entry(&second, self.depth)
+    }
+
+    // ELSE: the second branch was read, and what comes after it comes after the first branch too.
+    fn switch(mut self) -> Laying
+        ensures { λ r. ⌜ r ≡ switched self ⌝ }
+    {
+        let depth = self.depth;
+        let next = self.coming();
+        if depth < PARTS {
+            self.second[depth] = self.next;
+        }
+        self.next = next;
+        self
+    }
+
+    // An opening record is laid, and is what comes next; its part is no longer open.
+    fn pop(mut self, inside: u8) -> Laying
+        ensures { λ r. ⌜ r ≡ popped inside self ⌝ }
+    {
+        let place = less(self.place);
+        let depth = one_less(self.depth);
+        self.place = place;
+        self.next = place;
+        self.inside = inside;
+        self.depth = depth;
+        self
+    }
+
+    // STATION, or the end of the file: the station that was read starts here, and the STOP of the one before is laid, if there is one.
+    fn turn(mut self) -> Laying
+        ensures { λ r. ⌜ r ≡ turned self ⌝ }
+    {
+        let station = self.station;
+        let place = self.place;
+        if station == 0 {
+            self.starts[0] = place;
+            self.next = place;
+            self.station = Record::NO_STATION;
+            return self;
+        }
+        let below = less(place);
+        let at = station as usize;
+        self.place = below;
+        self.next = below;
+        self.station = station - 1;
+        if at < Record::MAX_STATIONS {
+            self.starts[at] = place;
+        }
+        self
+    }
+
+    // The layout after a record of this kind.
+    pub fn take(self, kind: u8, loops: &[u16]) -> Laying
+        ensures { λ r. ⌜ r ≡ taken (now (loops .entry)) kind self ⌝ }
+    {
+        if kind == Record::SKIP || kind == Record::SET {
+            return self.step();
+        }
+        if kind == Record::IF || kind == Record::WHILE {
+            return self.pop(self.inside);
+        }
+        if kind == Record::AWAIT {
+            return self.pop(0);
+        }
+        if kind == Record::FI {
+            return self.push(self.next, self.inside, self.loops);
+        }
+        if kind == Record::ELSE {
+            return self.switch();
+        }
+        if kind == Record::OD {
+            return self.back(loops);
+        }
+        if kind == Record::END {
+            return self.push(0, 1, self.loops);
+        }
+        self.turn()
+    }
+
+    // OD: the part of a loop opens, whose last step leads to its WHILE.
+    fn back(self, loops: &[u16]) -> Laying
+        ensures { λ r. ⌜ r ≡ pushed (getD (now (loops .entry)) (self .loops - 1) 0) (self .inside) (self .loops - 1) self ⌝ }
+    {
+        let left = one_less(self.loops);
+        let place = entry(loops, left);
+        self.push(place, self.inside, left)
+    }
+
+    // Whether a record of the list is laid for a record of this kind.
+    pub fn lays(self, kind: u8) -> bool
+        ensures { λ r. ⌜ r ≡ laysOf kind self ⌝ }
+    {
+        if is_step(kind) {
+            return true;
+        }
+        kind == Record::STATION && self.station != 0
+    }
+
+    // The record of the list laid for a record of the file.
+    pub fn record_for(self, r: Record) -> ListRecord
+        ensures { λ e. ⌜ as-list-record e ≡ record-for (as-record r) self ⌝ }
+    {
+        let kind = r.kind;
+        let station = self.station;
+        if kind == Record::STATION {
+            return stop(station);
+        }
+        if station == Record::NO_STATION {
+            return listed(r, Record::NO_STATION, 0, 0, 0);
+        }
+        if kind == Record::IF {
+            return listed(r, station, self.inside, self.next, self.other());
+        }
+        if kind == Record::WHILE {
+            return listed(r, station, self.inside, self.next, self.coming());
+        }
+        if kind == Record::AWAIT {
+            return listed(r, station, 0, self.place, self.coming());
+        }
+        listed(r, station, self.inside, self.next, 0)
+    }
+}
+
+// A list record, with nothing in its spare bytes.
+fn listed(own: Record, station: u8, inside: u8, t1: u16, t2: u16) -> ListRecord
+    ensures { λ e. ⌜ as-list-record e ≡ listedOf (as-record own) station inside t1 t2 ⌝ }
+{
+    ListRecord {
+        own,
+        station,
+        inside,
+        t1,
+        t2,
+        spare: 0,
+    }
+}
+
+// The STOP of the station before.
+fn stop(station: u8) -> ListRecord
+    ensures { λ e. ⌜ as-list-record e ≡ listedOf (bare STOP 0) (station - 1) 0 0 0 ⌝ }
+{
+    let own = Record {
+        kind: Record::STOP,
+        a: 0,
+        b: 0,
+        op: 0,
+        k: 0,
+    };
+    if station == 0 {
+        return listed(own, 0, 0, 0, 0);
+    }
+    let before = station - 1;
+    listed(own, before, 0, 0, 0)
+}
+
+// Whether a kind is SKIP, SET, IF, WHILE or AWAIT.
+pub fn is_step(kind: u8) -> bool
+    ensures { λ r. ⌜ r ≡ among kind (SKIP ∷ SET ∷ IF ∷ WHILE ∷ AWAIT ∷ []) ⌝ }
+{
+    match kind {
+        Record::SKIP | Record::SET | Record::IF | Record::WHILE | Record::AWAIT => true,
+        _ => false,
+    }
+}
+
+// A STATION record, which the end of a file is laid out as.
+pub fn end_of_file() -> Record
+    ensures { λ r. ⌜ as-record r ≡ end-of-file ⌝ }
+{
+    Record {
+        kind: Record::STATION,
+        a: 0,
+        b: 0,
+        op: 0,
+        k: 0,
+    }
+}
+
+// The INIT record of a station, which starts where the array says; from the ninth station on at 0.
+pub fn init(j: u8, starts: [u16; 8]) -> ListRecord
+    ensures { λ e. ⌜ as-list-record e ≡ listedOf (bare INIT j) j 0 (getD starts j 0) 0 ⌝ }
+{
+    let own = Record {
+        kind: Record::INIT,
+        a: j,
+        b: 0,
+        op: 0,
+        k: 0,
+    };
+    let start = entry(&starts, j as usize);
+    listed(own, j, 0, start, 0)
+}
