@@ -30,7 +30,25 @@ byte-requires-8 : tie.Need-byte-requires-8
 byte-requires-8 c κs = search needs
 
 returns : tie.Need-returns
-returns c = cc (add-zero (c .before .before .before .before .before .before .before .before .before .args .at))
+returns c =
+    let h = c .before in
+    let g = h .before in
+    let f = g .before in
+    let e = f .before in
+    let d = e .before in
+    let b = d .before in
+    let a = b .before in
+    rw (
+      a .byte .ensures,
+      b .byte2 .ensures,
+      d .byte3 .ensures,
+      e .byte4 .ensures,
+      f .byte5 .ensures,
+      g .byte6 .ensures,
+      h .byte7 .ensures,
+      c .byte8 .ensures,
+      add-zero,
+    )
 
 pub cut-spec : {M : Type 1} → statement M
 cut-spec =

@@ -56,7 +56,7 @@ returns c =
     let b = digit (rules .b) in
     let op = digit (rules .op) in
     let k = digit (rules .k) in
-    cc (
+    rw (
       tested .obeyed .ensures (rules .a) (omega arith),
       c .before .before .obeyed2 .ensures (rules .b) (omega arith),
       c .before .obeyed3 .ensures (rules .op) (omega arith),

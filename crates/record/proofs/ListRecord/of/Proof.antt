@@ -38,7 +38,7 @@ half-requires-3 : tie.Need-half-requires-3
 half-requires-3 c κs = search needs
 
 returns : tie.Need-returns
-returns c = cc
+returns c = rw (c .before .before .half .ensures, c .before .half2 .ensures, c .half3 .ensures)
 
 pub of-spec : {M : Type 1} → statement M
 of-spec =

@@ -34,7 +34,7 @@ word-requires c κs = search needs
 
 returns : tie.Need-returns
 unfolding record-from
-returns c = cc
+returns c = rw (c .word .ensures)
 
 pub of-spec : {M : Type 1} → statement M
 of-spec =
