@@ -6,7 +6,6 @@ use crate::hash::after_text;
 use crate::hash::hash;
 use crate::lines::line;
 use crate::states::hash_state;
-use record::Record;
 use run::State;
 use tracing::Tracer;
 
@@ -26,11 +25,6 @@ pub(crate) const UNDO: u8 = 6;
 pub(crate) const LIGHTS: u8 = 7;
 
 pub(crate) const TRACE: u8 = 8;
-
-// Bytes of the longest list, and of the longest log.
-const LIST_BYTES: usize = 16 * Record::MAX_LIST;
-
-const LOG_BYTES: usize = 2 * (Record::MAX_STATIONS + Record::MAX_STEPS as usize);
 
 // The number and the place.
 pub(crate) fn check(program: &[u8]) -> bool {
@@ -123,8 +117,8 @@ pub(crate) fn lights(list: &[u8], given: State) -> bool {
 
 // The length and H of all that the trace prints.
 pub(crate) fn trace(program: &[u8], starts: &[u8], picks: &[u8]) -> bool {
-    let mut list = [0u8; LIST_BYTES];
-    let mut log = [0u8; LOG_BYTES];
+    let mut list = [0u8; Tracer::LIST_BYTES];
+    let mut log = [0u8; Tracer::LOG_BYTES];
     let first = tracing::open(program, starts, &mut list, &mut log);
     trace_from(first, &list, &mut log, picks)
 }

@@ -1,5 +1,5 @@
 // H, which stands in a line for bytes that are too many: 7 at first, and after each byte b it becomes h * 31 + b + 1 mod 2^32.
-use tracing::Text;
+use text::Text;
 
 // H of no bytes.
 pub(crate) const NONE: u32 = 7;

@@ -2,19 +2,8 @@
 // taken, and the last line. `tracing` says what is printed and in which order; here it is only read and written.
 ghost use Rattle.io.specs.Counts.{Counts};
 use libc::STDOUT_FILENO;
-use record::Record;
-use tracing::Text;
+use text::Text;
 use tracing::Tracer;
-
-// Bytes read of a program or a picks file, and of a start file: one more than it may have, so that a longer one is noticed.
-const ENOUGH: usize = 8 * Record::MAX_RECORDS + 1;
-
-const ENOUGH_STARTS: usize = 1 + Record::MAX_STATIONS + 1;
-
-// Bytes of the longest list, and of the longest log.
-const LIST_BYTES: usize = 16 * Record::MAX_LIST;
-
-const LOG_BYTES: usize = 2 * (Record::MAX_STATIONS + Record::MAX_STEPS as usize);
 
 // Reads a file until the buffer is full, it ends or a read fails, and answers how many bytes came. One that cannot be opened counts as empty.
 fn read(path: &[u8], buffer: &mut [u8]) -> usize
@@ -52,16 +41,16 @@ fn print_all(first: Tracer, list: &[u8], log: &mut [u8], picks: &[u8]) {
 
 // Prints the trace of three files.
 fn trace(program: &[u8], starts: &[u8], picks: &[u8]) {
-    let mut list = [0u8; LIST_BYTES];
-    let mut log = [0u8; LOG_BYTES];
+    let mut list = [0u8; Tracer::LIST_BYTES];
+    let mut log = [0u8; Tracer::LOG_BYTES];
     let first = tracing::open(program, starts, &mut list, &mut log);
     print_all(first, &list, &mut log, picks);
 }
 
 fn main() {
-    let mut program = [0u8; ENOUGH];
-    let mut starts = [0u8; ENOUGH_STARTS];
-    let mut picks = [0u8; ENOUGH];
+    let mut program = [0u8; Tracer::ENOUGH];
+    let mut starts = [0u8; Tracer::ENOUGH_STARTS];
+    let mut picks = [0u8; Tracer::ENOUGH];
     let program_count = read(b"program.rec", &mut program);
     let starts_count = read(b"start.rec", &mut starts);
     let picks_count = read(b"picks.rec", &mut picks);

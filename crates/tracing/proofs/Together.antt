@@ -16,7 +16,7 @@ use Rattle.rules.specs.Build.{Built, build}
 use Rattle.rules.specs.Start.{Started, start}
 use Rattle.rules.specs.Trace.{end-line, line, taken-pick, picks-text, wrong-picks, run-text, start-text, trace}
 use Rattle.laws.proofs.Choice.{by-test}
-use Rattle.tracing.specs.Line.{line-of}
+use Rattle.line.specs.Line.{line-of}
 use Rattle.tracing.specs.Tracing.{Tracing, Piece, Opened, pick-piece, piece, still, printed, left, all-printed, ending, opened, opened-built, opened-by, opened-list}
 use Rattle.tracing.specs.Claims.{PieceFirst, fresh-opened, Traced}
 use Rattle.tracing.specs.declared.Next.{Next}

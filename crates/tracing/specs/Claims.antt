@@ -14,9 +14,16 @@ PieceFirst =
     (list picks log : List ℕ) (t : Tracing)
     → let p = piece list picks log t in still list picks log t ≡ p .text ++ still list picks (p .log) (p .tracing)
 
+-- bytes of the longest list, and of the longest log
+abbrev pub list-bytes : ℕ
+list-bytes = 16 * max-list
+
+abbrev pub log-bytes : ℕ
+log-bytes = 2 * (max-stations + max-steps)
+
 -- where the trace of two files begins, in buffers that are never short
 abbrev pub fresh-opened : List ℕ → List ℕ → Opened
-fresh-opened program starts = opened program starts (replicate (16 * max-list) 0) (replicate (2 * (max-stations + max-steps)) 0)
+fresh-opened program starts = opened program starts (replicate list-bytes 0) (replicate log-bytes 0)
 
 -- the pieces put together, with two turns more than there are picks, are the rules' trace
 abbrev pub Traced : Type 0

@@ -11,7 +11,7 @@ use Rattle.rules.specs.State.{State, zeros}
 use Rattle.rules.specs.Build.{Built, build}
 use Rattle.rules.specs.Start.{Started, start}
 use Rattle.rules.specs.Trace.{end-line, taken-pick, picks-text, wrong-picks}
-use Rattle.tracing.specs.Line.{line-of}
+use Rattle.line.specs.Line.{line-of}
 use Rattle.tracing.specs.declared.Next.{Next}
 use Rattle.tracing.specs.declared.Next.the-variants.{Start, Pick, End, Nothing}
 

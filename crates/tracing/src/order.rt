@@ -7,19 +7,17 @@ ghost use Rattle.tracing.specs.Tracing.{piece, pick-piece, all-printed};
 ghost use Rattle.tracing.specs.View.{as-tracing, as-piece};
 use crate::Next;
 use crate::Printed;
-use crate::Text;
 use crate::Tracer;
-use crate::end_line;
-use crate::line;
 use crate::opening;
-use crate::taking;
 use record::Record;
+use text::Text;
+use text::end_line;
 
 // What comes after the start's line: the picks, or the last line where the picks file is wrong.
 fn after_start(picks: &[u8]) -> Next
     ensures { λ r. ⌜ r ≡ (if wrong-picks (now (picks .entry)) then Next.End LENGTH else Next.Pick 0) ⌝ }
 {
-    if taking::wrong(picks) {
+    if picks::wrong(picks) {
         return Next::End(Record::LENGTH);
     }
     Next::Pick(0)
@@ -47,7 +45,7 @@ impl Tracer {
         let state = self.state;
         let next = self.next;
         match next {
-            Next::Start => self.print_then(line(state, own), after_start(picks)),
+            Next::Start => self.print_then(line::of(state, own), after_start(picks)),
             Next::Pick(i) => self.pick(own, log, picks, i),
             Next::End(number) => self.print_then(end_line(number), Next::Nothing),
             Next::Nothing => self.print_then(Text::empty(), Next::Nothing),
@@ -79,7 +77,7 @@ impl Tracer {
         let at = 2 * i;
         let after = i + 1;
         let given = self.state;
-        let taken = taking::taken(given, list, log, picks[at], picks[at + 1]);
+        let taken = picks::taken(given, list, log, picks[at], picks[at + 1]);
         let state = taken.state;
         let tracer = Tracer {
             state,
@@ -89,6 +87,6 @@ impl Tracer {
         if taken.number != 0 {
             return tracer.print_then(end_line(taken.number), Next::Nothing);
         }
-        tracer.print_then(line(state, list), Next::Pick(after))
+        tracer.print_then(line::of(state, list), Next::Pick(after))
     }
 }

@@ -10,8 +10,8 @@ used-requires c κs = search needs
 enum-told : tie.Need-enum-told
 enum-told c = search needs
 
-line-requires : tie.Need-line-requires
-line-requires c κs = search needs
+of-requires : tie.Need-of-requires
+of-requires c κs = search needs
 
 after-start-requires : tie.Need-after-start-requires
 after-start-requires c κs = search needs
@@ -50,7 +50,7 @@ returns c =
     rw (
       told .enum-told .given .1,
       c .print-then .ensures,
-      c .before .before .line .ensures,
+      c .before .before .of .ensures,
       told .before .before .before .used .ensures,
       c .before .after-start .ensures,
     )
@@ -82,7 +82,7 @@ next-spec =
     (tie.spec
     used-requires
     enum-told
-    line-requires
+    of-requires
     after-start-requires
     print-then-requires
     enum-known-next

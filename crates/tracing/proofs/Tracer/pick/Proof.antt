@@ -59,8 +59,8 @@ returns-2 c =
       c .before .end-line2 .ensures,
     )
 
-line-requires : tie.Need-line-requires
-line-requires c κs = search needs
+of-requires : tie.Need-of-requires
+of-requires c κs = search needs
 
 print-then-requires-3 : tie.Need-print-then-requires-3
 print-then-requires-3 c κs = search needs
@@ -79,7 +79,7 @@ returns-3 c =
       ← taken .taken .ensures,
       eq-eqb _ _ (went .if2 .left),
       c .print-then3 .ensures,
-      c .before .line .ensures,
+      c .before .of .ensures,
       add-one,
     )
 
@@ -100,7 +100,7 @@ pick-spec =
     print-then-requires-2
     same-length
     returns-2
-    line-requires
+    of-requires
     print-then-requires-3
     same-length-2
     returns-3)
