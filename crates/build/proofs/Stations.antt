@@ -18,7 +18,7 @@ use Rattle.laws.proofs.Places.{values-suc}
 use Rattle.reading.specs.Reading.{flat, flat-stations, flat-file, Proper, Stations, a-station, Sets, a-set}
 use Rattle.built.proofs.Bytes.{length-bytes-of}
 use Rattle.built.proofs.Lengths.{length-laid, extent, length-bodies}
-use Rattle.layout.specs.Layout.{begun, stepped, turned}
+use Rattle.layout.specs.Layout.{before-last, stepped, turned}
 use Rattle.laying.specs.Laid.{Laid, put-at, lay-record, lay-records, lay-inits}
 use Rattle.laws.proofs.Written.{written-none, length-written}
 use Rattle.build.proofs.Written.{records-before, record-before}
@@ -272,7 +272,7 @@ module _ (places : List ℕ) (initial : List Record) (stations : List Statements
   p = length stations + length initial
 
   unfoldable pub begin : Laid
-  begin = record { state = begun (p + extent stations) n (length (station-loops p stations)); buffer = before }
+  begin = record { state = before-last (p + extent stations) n (length (station-loops p stations)); buffer = before }
 
   at-the-end : Standing [] before begin (0 + n) (p + extent stations) (0 + length (station-loops p stations))
   unfolding begin bodies bytes-of

@@ -23,7 +23,7 @@ pub fn build(file: &[u8], list: &mut [u8]) -> Built
         };
     }
     let stations = sequence::station_count(file);
-    let count = 2 * stations + laying::steps(file);
+    let count = 2 * stations + laying::step_count(file);
     if list.len() < 16 * count {
         return Built {
             number: Record::ROOM,

@@ -9,6 +9,7 @@ use Rattle.rules.specs.Names.{STATION, SKIP, SET, ELSE, FI, OD, END}
 use Rattle.rules.specs.Shape.{Part, opened, grown, Stand, initial, within, wrong, stride, is-wrong, finished, walked, well-shaped}
 use Rattle.laws.proofs.Choice.{by-test}
 use Rattle.reading.proofs.Strides.{closes-inner, closing, Nested, nested-closes, InPart, inside-stride}
+use Rattle.laws.proofs.Shapes.{wrong-stays}
 use Rattle.grammar.specs.Grammar.{Continues}
 use Rattle.grammar.proofs.Made.{made}
 use Rattle.grammar.proofs.Taken.{is-sequence}
@@ -17,11 +18,6 @@ walked-append : (s : Stand) (xs ys : List ℕ) → walked s (xs ++ ys) ≡ walke
 unfolding walked
 walked-append s [] ys = refl
 walked-append s (x ∷ xs) ys = walked-append (stride s x) xs ys
-
-wrong-stays : (ks : List ℕ) → walked wrong ks ≡ wrong
-unfolding walked stride
-wrong-stays [] = refl
-wrong-stays (k ∷ ks) = wrong-stays ks
 
 -- what is right at the end was right before
 pub right-from : (s : Stand) (ks : List ℕ) → is-wrong (walked s ks) ≡ false → is-wrong s ≡ false

@@ -3,9 +3,11 @@ pub mod Places
 pub mod Counts
 pub mod Changed
 pub mod Filled
+pub mod Among
 pub mod Judge
 pub mod Written
 pub mod Lowest
+pub mod Shapes
 pub mod Bodies
 pub mod Sound
 pub mod Passed

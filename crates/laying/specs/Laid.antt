@@ -8,7 +8,7 @@ use Rattle.rules.specs.Names.{SKIP, SET, IF, WHILE, AWAIT, INIT}
 use Rattle.rules.specs.Records.{Record, ListRecord, records, record-at, record-count, list-record-bytes}
 use Rattle.rules.specs.Build.{bare, listed}
 use Rattle.layout.specs.declared.Laying.{Laying}
-use Rattle.layout.specs.Layout.{begun, taken, lays, record-for, end-of-file}
+use Rattle.layout.specs.Layout.{before-last, after-kind, lays, record-for, end-of-file}
 use Rattle.loops.specs.Loops.{seek-records, nothing-sought}
 
 -- a list record put at a place, where there is room for it
@@ -23,7 +23,7 @@ pub record Laid : Type 0 where
 unfoldable pub lay-record : List ℕ → Record → Laid → Laid
 lay-record loops r x =
     record {
-      state = taken loops (r .kind) (x .state);
+      state = after-kind loops (r .kind) (x .state);
       buffer = (if lays (r .kind) (x .state) then put-at (x .state .place - 1) (record-for r (x .state)) (x .buffer) else x .buffer);
     }
 
@@ -42,7 +42,7 @@ lay-inits (suc j) starts place buffer =
 unfoldable pub laid-out : List ℕ → ℕ → ℕ → List ℕ → List ℕ
 laid-out file total stations buffer =
     let sought = seek-records (records file) (nothing-sought (stations - 1)) in
-    let begin : Laid = record { state = begun total stations (sought .seeking .found); buffer = buffer } in
+    let begin : Laid = record { state = before-last total stations (sought .seeking .found); buffer = buffer } in
     let x = lay-records (sought .places) (records file) (lay-record (sought .places) end-of-file begin) in
     lay-inits stations (x .state .starts) (x .state .place) (x .buffer)
 

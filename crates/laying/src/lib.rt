@@ -64,7 +64,7 @@ pub fn lay_out(file: &[u8], total: u16, stations: u8, list: &mut [u8])
 }
 
 // How many SKIP, SET, IF, WHILE and AWAIT records a file has.
-pub fn steps(file: &[u8]) -> usize
+pub fn step_count(file: &[u8]) -> usize
     ensures { λ r. ⌜ r ≡ step-count (now (file .entry)) ⌝ }
 {
     let count = file.len() / 8;

@@ -12,8 +12,8 @@ use Rattle.rules.specs.Build.{bare, listed}
 use Rattle.layout.specs.declared.Laying.{Laying}
 
 -- before the last record of the file is read: a list of so many records, stations and loops
-abbrev pub begun : ℕ → ℕ → ℕ → Laying
-begun place stations loops =
+abbrev pub before-last : ℕ → ℕ → ℕ → Laying
+before-last place stations loops =
     record {
       place = place;
       next = 0;
@@ -102,8 +102,8 @@ turned s =
     }
 
 -- the layout after a record of this kind; the places of WHILE records stand in the order of their ODs
-unfoldable pub taken : List ℕ → ℕ → Laying → Laying
-taken loops kind s =
+unfoldable pub after-kind : List ℕ → ℕ → Laying → Laying
+after-kind loops kind s =
     if among kind (SKIP ∷ SET ∷ []) then stepped s
     else if among kind (IF ∷ WHILE ∷ []) then popped (s .inside) s
     else if eqb kind AWAIT then popped 0 s

@@ -8,7 +8,7 @@ ghost use Rattle.rules.specs.Build.{bare, listed as listedOf};
 ghost use mathlib.Core.List.{[], _∷_};
 ghost use Rattle.rules.specs.Words.{among};
 ghost use Rattle.rules.specs.Names.{SKIP, SET, IF, WHILE, AWAIT, INIT, STOP};
-ghost use Rattle.layout.specs.Layout.{end-of-file, begun, stepped, pushed, switched, popped, turned, taken, lays as laysOf, record-for};
+ghost use Rattle.layout.specs.Layout.{end-of-file, before-last, stepped, pushed, switched, popped, turned, after-kind, lays as laysOf, record-for};
 use record::ListRecord;
 use record::Record;
 
@@ -70,7 +70,7 @@ pub fn entry(entries: &[u16], i: usize) -> u16
 impl Laying {
     // Before the last record of the file is read: a list of so many records, stations and loops.
     pub fn begin(place: u16, stations: u8, loops: usize) -> Laying
-        ensures { λ r. ⌜ r ≡ begun place stations loops ⌝ }
+        ensures { λ r. ⌜ r ≡ before-last place stations loops ⌝ }
     {
         Laying {
             place,
@@ -177,7 +177,7 @@ impl Laying {
 
     // The layout after a record of this kind.
     pub fn take(self, kind: u8, loops: &[u16]) -> Laying
-        ensures { λ r. ⌜ r ≡ taken (now (loops .entry)) kind self ⌝ }
+        ensures { λ r. ⌜ r ≡ after-kind (now (loops .entry)) kind self ⌝ }
     {
         if kind == Record::SKIP || kind == Record::SET {
             return self.step();

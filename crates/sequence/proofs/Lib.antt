@@ -1,4 +1,3 @@
-pub mod Among
 pub mod Open
 pub mod Stations
 pub mod Tests

@@ -1,6 +1,6 @@
 -- The five tests in their order: the first that refuses gives the answer. Assumes nothing.
 use mathlib.Core.Path.{_≡_}
-use mathlib.Core.Bool.{Bool, true, false, _||_, not}
+use mathlib.Core.Bool.{true, false, _||_, not}
 use mathlib.Core.List.{List, [], _∷_}
 use Prim.Native.Nat.{ℕ, _*_, _%_, _≤_, _<_, zero-le}
 use native.Mathlib.Omega.{arith}
@@ -12,7 +12,7 @@ use Rattle.rules.specs.Names.{LENGTH, FIELD, COUNT, SHAPE, DEPTH, max-records}
 use Rattle.rules.specs.Records.{record-count}
 use Rattle.rules.specs.Shape.{Stand, initial, stride, is-wrong, wrong-at, well-shaped, shape-place}
 use Rattle.rules.specs.Check.{kinds, wrong-length, field-place, depth-place, check}
-use Rattle.laws.proofs.Choice.{by-test}
+use Rattle.laws.proofs.Choice.{by-test, neither}
 use Rattle.shape.specs.declared.Shape.the-variants.{Whole, Broken}
 use Rattle.shape.specs.Reading.{shape-of, file-shape}
 use Rattle.shape.proofs.Kind.{length-kinds}
@@ -41,11 +41,6 @@ wrong-within stand (kind ∷ kinds) =
     let h = wrong-within (stride stand kind) kinds in
     by-test (is-wrong (stride stand kind)) (λ e. rw e zero-le) (λ e. rw e (omega arith))
 
--- what is left where one of two tests does not refuse
-second-false : (a b : Bool) → (a || b) ≡ false → b ≡ false
-second-false true b e = absurd (let z : _≡_ {A = ℕ} 0 1 = cc in omega arith)
-second-false false b e = e
-
 module _ (file : List ℕ) where
   pub length-refuses : wrong-length file ≡ true → check file ≡ answer LENGTH 0
   unfolding check judge
@@ -57,7 +52,7 @@ module _ (file : List ℕ) where
     unfolding wrong-length
     short =
         let uneven-or-none = not (eqb (length file % 8) 0) || eqb (length file) 0 in
-        ltb-false (8 * max-records) (length file) (second-false uneven-or-none _ a)
+        ltb-false (8 * max-records) (length file) (neither uneven-or-none _ a .1)
 
     pub few : record-count file ≤ max-records
     few = omega (arith, short)

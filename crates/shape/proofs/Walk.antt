@@ -15,6 +15,7 @@ use Rattle.laws.proofs.Choice.{by-test, both-left}
 use Rattle.parts.specs.declared.Part.{Part}
 use Rattle.parts.specs.declared.Stride.{Stride}
 use Rattle.parts.specs.declared.Stride.the-variants.{On, Into, Out, Off}
+use Rattle.laws.proofs.Shapes.{wrong-stays}
 use Rattle.shape.specs.declared.Read.{Read}
 use Rattle.shape.specs.declared.Read.the-variants.{Closed, Wrong, Short}
 use Rattle.shape.specs.declared.Shape.{Shape}
@@ -64,14 +65,9 @@ abbrev pub onward : ℕ → Shape → Shape
 onward d Whole = Whole
 onward d (Broken place) = Broken (d + place)
 
-walked-wrong : (kinds : List ℕ) → walked wrong kinds ≡ wrong
-unfolding walked stride
-walked-wrong [] = refl
-walked-wrong (kind ∷ kinds) = walked-wrong kinds
-
 pub judged-wrong : (at : Stand) (kind : ℕ) (kinds : List ℕ) → stride at kind ≡ wrong → judged at (kind ∷ kinds) ≡ Broken 0
 unfolding walked wrong-at
-judged-wrong at kind kinds e = rw (e, walked-wrong kinds)
+judged-wrong at kind kinds e = rw (e, wrong-stays kinds)
 
 pub judged-more : (at next : Stand) (kind : ℕ) (kinds : List ℕ) → stride at kind ≡ next → is-wrong next ≡ false
     → judged at (kind ∷ kinds) ≡ onward 1 (judged next kinds)

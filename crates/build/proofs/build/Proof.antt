@@ -35,33 +35,33 @@ mul-count c =
     let a = accepted-as file _ (c .before .before .before .check .ensures) (c .before .if1 .left) in
     record { fits = omega (arith, stations-few file a, c .station-count .ensures) }
 
-steps-requires : tie.Need-steps-requires
-steps-requires c κs = search needs
+step-count-requires : tie.Need-step-count-requires
+step-count-requires c κs = search needs
 
 add-count : tie.Need-add-count
 add-count c =
     let file = c .before .before .before .before .before .before .before .args .file .now in
     let a = accepted-as file _ (c .before .before .before .before .check .ensures) (c .before .before .if1 .left) in
-    record { fits = omega (arith, total-is file a, built-most file a, c .steps .ensures, c .before .station-count .ensures) }
+    record { fits = omega (arith, total-is file a, built-most file a, c .step-count .ensures, c .before .station-count .ensures) }
 
 mul-if2 : tie.Need-mul-if2
 mul-if2 c =
     let file = c .before .before .before .before .before .before .before .args .file .now in
     let a = accepted-as file _ (c .before .before .before .before .check .ensures) (c .before .before .if1 .left) in
-    record { fits = omega (arith, total-is file a, built-most file a, c .steps .ensures, c .before .station-count .ensures) }
+    record { fits = omega (arith, total-is file a, built-most file a, c .step-count .ensures, c .before .station-count .ensures) }
 
 returns-2 : tie.Need-returns-2
 returns-2 c =
     let s = c .before .before .before .before .before .before .before .before .args in
     let file = s .file .now in
     let a = accepted-as file _ (c .before .before .before .before .before .check .ensures) (c .before .before .before .if1 .left) in
-    sym (build-short file a (s .list .now) (omega (arith, total-is file a, c .before .steps .ensures, c .before .before .station-count .ensures, c .if2 .taken)))
+    sym (build-short file a (s .list .now) (omega (arith, total-is file a, c .before .step-count .ensures, c .before .before .station-count .ensures, c .if2 .taken)))
 
 cast-lay-out : tie.Need-cast-lay-out
 cast-lay-out c =
     let file = c .before .before .before .before .before .before .before .before .args .file .now in
     let a = accepted-as file _ (c .before .before .before .before .before .check .ensures) (c .before .before .before .if1 .left) in
-    record { fits = omega (arith, total-is file a, built-most file a, c .before .steps .ensures, c .before .before .station-count .ensures) }
+    record { fits = omega (arith, total-is file a, built-most file a, c .before .step-count .ensures, c .before .before .station-count .ensures) }
 
 cast-lay-out-2 : tie.Need-cast-lay-out-2
 cast-lay-out-2 c =
@@ -77,7 +77,7 @@ cast-t10 c =
     let d = c .before .before .before .before in
     let file = d .before .before .before .before .before .before .before .before .args .file .now in
     let a = accepted-as file _ (d .before .before .before .before .before .check .ensures) (d .before .before .before .if1 .left) in
-    record { fits = omega (arith, total-is file a, built-most file a, d .before .steps .ensures, d .before .before .station-count .ensures) }
+    record { fits = omega (arith, total-is file a, built-most file a, d .before .step-count .ensures, d .before .before .station-count .ensures) }
 
 same-length : tie.Need-same-length
 same-length c = search needs
@@ -90,8 +90,8 @@ returns-3 c =
     let list = s .list .now in
     let a = accepted-as file _ (d .before .before .before .before .before .check .ensures) (d .before .before .before .if1 .left) in
     let n : d .before .before .station-count .result ≡ length (stations-of file) = d .before .before .station-count .ensures ∙ sym (stations-counted file a) in
-    let t : 2 * d .before .before .station-count .result + d .before .steps .result ≡ length (list-records file) =
-    omega (arith, total-is file a, d .before .steps .ensures, d .before .before .station-count .ensures) in
+    let t : 2 * d .before .before .station-count .result + d .before .step-count .result ≡ length (list-records file) =
+    omega (arith, total-is file a, d .before .step-count .ensures, d .before .before .station-count .ensures) in
     let room : 16 * length (list-records file) ≤ length list = omega (arith, t, d .if2 .left) in
     let l = rw (t, n) at (c .before .before .lay-out .ensures) in
     rw (t, l, laid-out-is file a list room) (sym (build-done file a list room))
@@ -104,7 +104,7 @@ build-spec =
     returns
     station-count-requires
     mul-count
-    steps-requires
+    step-count-requires
     add-count
     mul-if2
     returns-2

@@ -31,8 +31,8 @@ returns c =
     let made = put .before in
     let less = made .before .before in
     let tested = less .before in
-    let taken = tested .before .before in (
-      taken .take .ensures,
+    let after-kind = tested .before .before in (
+      after-kind .take .ensures,
       rw (
         ← tested .before .lays .ensures,
         tested .if1 .taken,

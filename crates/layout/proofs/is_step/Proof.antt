@@ -10,7 +10,7 @@ use native.Mathlib.Omega.{arith}
 use borrow.Author.Tests.{ne-eqb}
 use Rattle.rules.specs.Words.{values}
 use Rattle.rules.specs.Names.{SKIP, SET, IF, WHILE, AWAIT}
-use Rattle.layout.proofs.Among.{in-run}
+use Rattle.laws.proofs.Among.{in-run}
 use Rattle.layout.proofs.is_step.Statement.{statement}
 use Rattle.layout.proofs.is_step.Tie as tie
 

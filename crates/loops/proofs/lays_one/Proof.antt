@@ -9,7 +9,7 @@ use native.Mathlib.Omega.{arith}
 use borrow.Author.Tests.{ne-eqb}
 use Rattle.rules.specs.Words.{values}
 use Rattle.rules.specs.Names.{STATION, SKIP, SET, IF, AWAIT}
-use Rattle.layout.proofs.Among.{in-run}
+use Rattle.laws.proofs.Among.{in-run}
 use Rattle.loops.proofs.lays_one.Statement.{statement}
 use Rattle.loops.proofs.lays_one.Tie as tie
 

@@ -2,7 +2,7 @@
 use mathlib.Core.Path.{sym}
 use mathlib.Core.List.{[], _∷_}
 use Rattle.rules.specs.Names.{FI, OD, END}
-use Rattle.sequence.proofs.Among.{among-yes, among-no}
+use Rattle.laws.proofs.Among.{among-yes, among-no}
 use Rattle.sequence.proofs.depth.closes.Statement.{statement}
 use Rattle.sequence.proofs.depth.closes.Tie as tie
 

@@ -1,4 +1,4 @@
--- `laying::steps` meets its contract: after i turns n counts the steps among the first i records.
+-- `laying::step_count` meets its contract: after i turns n counts the steps among the first i records.
 -- Assumes nothing.
 use mathlib.Core.Path.{sym, _∙_, _≡_, refl}
 use mathlib.Core.Bool.{Bool}
@@ -12,8 +12,8 @@ use Rattle.rules.specs.Names.{SKIP, SET, IF, WHILE, AWAIT}
 use Rattle.rules.specs.Records.{record-at, record-count}
 use Rattle.laying.specs.Laid.{step-count}
 use Rattle.laying.proofs.Passes.{counted, passed}
-use Rattle.laying.proofs.steps.Statement.{statement}
-use Rattle.laying.proofs.steps.Tie as tie
+use Rattle.laying.proofs.step_count.Statement.{statement}
+use Rattle.laying.proofs.step_count.Tie as tie
 
 abbrev Inv-loop : tie.InvT-loop
 Inv-loop file count n₀ i₀ n i =
@@ -61,8 +61,8 @@ returns c =
     let all : c .before .loop .i ≡ record-count (c .before .before .before .args .file .now) = omega arith in
     rw all at (c .before .loop .inv .2)
 
-pub steps-spec : {M : Type 1} → statement M
-steps-spec =
+pub step-count-spec : {M : Type 1} → statement M
+step-count-spec =
     tie.close
     (tie.spec
     Inv-loop
