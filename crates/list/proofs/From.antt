@@ -8,8 +8,8 @@ use Rattle.laws.proofs.Places.{each-all, each-not, first-is, first-none}
 
 module _ (f : ℕ → Bool) (start end : ℕ) where
   -- every place from the start to below the end passes
-  pub each-from : ((p : ℕ) → p < end → start ≤ p → f p ≡ true) → each (λ i. f (start + i)) (end - start) ≡ true
-  each-from passes = each-all (λ i. f (start + i)) (end - start) (λ i l. passes (start + i) (omega arith) (omega arith))
+  pub each-between : ((p : ℕ) → p < end → start ≤ p → f p ≡ true) → each (λ i. f (start + i)) (end - start) ≡ true
+  each-between passes = each-all (λ i. f (start + i)) (end - start) (λ i l. passes (start + i) (omega arith) (omega arith))
 
   -- one of them that fails is enough
   pub each-from-not : (p : ℕ) → start ≤ p → p < end → f p ≡ false → each (λ i. f (start + i)) (end - start) ≡ false

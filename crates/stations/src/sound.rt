@@ -18,7 +18,7 @@ pub fn placed(list: &[u8], later: usize, positions: [u16; 8], n: u8) -> bool
     let n = n as usize;
     let mut j: usize = 0;
     while j < n {
-        if !list::outside(list, later, j as u8, position(positions, j)) {
+        if !targets::outside(list, later, j as u8, position(positions, j)) {
             return false;
         }
         j += 1;

@@ -8,7 +8,7 @@ use borrow.Author.Needs.{needs}
 use borrow.Author.Count.{below-more}
 use borrow.Author.Tests.{not-true, not-false}
 use Rattle.rules.specs.List.{later-right}
-use Rattle.list.proofs.From.{each-from, each-from-not}
+use Rattle.list.proofs.From.{each-between, each-from-not}
 use Rattle.list.proofs.each_later_right.Statement.{statement}
 use Rattle.list.proofs.each_later_right.Tie as tie
 
@@ -46,7 +46,7 @@ loop-again c = (
 returns-2 : tie.Need-returns-2 Inv-loop μ-loop
 returns-2 c =
     let a = c .before .before .before .args in
-    sym (each-from (later-right (a .list .now) (a .n) (a .later)) (a .later) _ (λ k l. c .before .loop .inv .1 k (omega arith)))
+    sym (each-between (later-right (a .list .now) (a .n) (a .later)) (a .later) _ (λ k l. c .before .loop .inv .1 k (omega arith)))
 
 pub each-later-right-spec : {M : Type 1} → statement M
 each-later-right-spec =

@@ -1,10 +1,10 @@
--- `list::later_right` meets its contract: it tests the record that `at` decodes, and byte 9 says by which rules.
+-- `clauses::later_right` meets its contract: it tests the record that `at` decodes, and byte 9 says by which rules.
 -- Assumes nothing.
 use borrow.Author.Needs.{needs}
 use borrow.Author.Tests.{eq-eqb, ne-eqb}
 use Rattle.rules.specs.List.{later-right}
-use Rattle.list.proofs.later_right.Statement.{statement}
-use Rattle.list.proofs.later_right.Tie as tie
+use Rattle.clauses.proofs.later_right.Statement.{statement}
+use Rattle.clauses.proofs.later_right.Tie as tie
 
 at-requires : tie.Need-at-requires
 at-requires c κs = search needs

@@ -1,6 +1,5 @@
 -- Tests that come to the same. Assumes nothing.
-use mathlib.Core.Path.{_≡_, sym, ap, _∙_}
-use mathlib.Core.Bool.{Bool, _&&_, and-false}
+use mathlib.Core.Path.{_≡_, sym, _∙_}
 use Prim.Native.Nat.{ℕ}
 use lib.Dec.{eqb}
 use borrow.Author.Tests.{eqb-true, eqb-false, eq-eqb, ne-eqb}
@@ -11,10 +10,3 @@ eqb-same a b x y to back =
     by-test (eqb a b)
     (λ e. e ∙ sym (eq-eqb x y (to (eqb-true a b e))))
     (λ e. e ∙ sym (ne-eqb x y (λ h. eqb-false a b e (back h))))
-
--- after a test that s is j, a test of s is a test of j
-pub same-station : (a z : Bool) (s j : ℕ) (f : ℕ → Bool) → (a && eqb s j && z && f s) ≡ (a && eqb s j && z && f j)
-same-station a z s j f =
-    by-test (eqb s j)
-    (λ e. ap (λ (x : ℕ). a && eqb s j && z && f x) (eqb-true s j e))
-    (λ e. rw (e, and-false a))

@@ -1,12 +1,12 @@
--- `list::is_at` meets its contract: below the first later record and past the end there is none, and between them the bytes 8 and 9
+-- `targets::is_at` meets its contract: below the first later record and past the end there is none, and between them the bytes 8 and 9
 -- of the record at p are compared.
 -- Assumes nothing.
 use borrow.Author.Needs.{needs}
 use borrow.Author.Tests.{lt-ltb, le-ltb, le-leb, lt-leb}
 use Rattle.rules.specs.Records.{list-record-at}
 use Rattle.rules.specs.List.{is-at}
-use Rattle.list.proofs.is_at.Statement.{statement}
-use Rattle.list.proofs.is_at.Tie as tie
+use Rattle.targets.proofs.is_at.Statement.{statement}
+use Rattle.targets.proofs.is_at.Tie as tie
 
 returns : tie.Need-returns
 unfolding is-at

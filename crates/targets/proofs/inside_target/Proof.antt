@@ -1,9 +1,9 @@
--- `list::inside_target` meets its contract, by what `inside` answers.
+-- `targets::inside_target` meets its contract, by what `inside` answers.
 -- Assumes nothing.
 use borrow.Author.Needs.{needs}
 use Rattle.rules.specs.List.{inside-target}
-use Rattle.list.proofs.inside_target.Statement.{statement}
-use Rattle.list.proofs.inside_target.Tie as tie
+use Rattle.targets.proofs.inside_target.Statement.{statement}
+use Rattle.targets.proofs.inside_target.Tie as tie
 
 inside-requires : tie.Need-inside-requires
 inside-requires c κs = search needs

@@ -1,9 +1,9 @@
--- `list::initial_right` meets its contract: it tests the record that `at` decodes, its fields by `fields_right`.
+-- `clauses::initial_right` meets its contract: it tests the record that `at` decodes, its fields by `fields_right`.
 -- Assumes nothing.
 use borrow.Author.Needs.{needs}
 use Rattle.rules.specs.List.{initial-right}
-use Rattle.list.proofs.initial_right.Statement.{statement}
-use Rattle.list.proofs.initial_right.Tie as tie
+use Rattle.clauses.proofs.initial_right.Statement.{statement}
+use Rattle.clauses.proofs.initial_right.Tie as tie
 
 at-requires : tie.Need-at-requires
 at-requires c κs = search needs

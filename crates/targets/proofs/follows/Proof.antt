@@ -1,13 +1,13 @@
--- `list::follows` meets its contract: above p, a place is one more than p exactly where the difference is 1.
+-- `targets::follows` meets its contract: above p, a place is one more than p exactly where the difference is 1.
 -- Assumes nothing.
 use Prim.Native.Nat.{suc, _-_}
 use mathlib.Core.Path.{sym}
 use native.Mathlib.Omega.{arith}
 use borrow.Author.Needs.{needs}
 use borrow.Author.Tests.{ne-eqb}
-use Rattle.list.proofs.Tests.{eqb-same}
-use Rattle.list.proofs.follows.Statement.{statement}
-use Rattle.list.proofs.follows.Tie as tie
+use Rattle.targets.proofs.Tests.{eqb-same}
+use Rattle.targets.proofs.follows.Statement.{statement}
+use Rattle.targets.proofs.follows.Tie as tie
 
 sub-result : tie.Need-sub-result
 sub-result c = search needs

@@ -1,8 +1,8 @@
--- `list::outside_kind` meets its contract: the kinds are those of the list, in its order.
+-- `clauses::outside_kind` meets its contract: the kinds are those of the list, in its order.
 -- Assumes nothing.
 use mathlib.Core.Bool.{or-assoc, or-false}
-use Rattle.list.proofs.outside_kind.Statement.{statement}
-use Rattle.list.proofs.outside_kind.Tie as tie
+use Rattle.clauses.proofs.outside_kind.Statement.{statement}
+use Rattle.clauses.proofs.outside_kind.Tie as tie
 
 returns : tie.Need-returns
 returns c = simp (or-assoc, or-false)

@@ -1,9 +1,9 @@
--- `list::own_right` meets its contract: a STOP is tested here, and any other record by `fields_right`.
+-- `clauses::own_right` meets its contract: a STOP is tested here, and any other record by `fields_right`.
 -- Assumes nothing.
 use borrow.Author.Needs.{needs}
 use borrow.Author.Tests.{eq-eqb, ne-eqb}
-use Rattle.list.proofs.own_right.Statement.{statement}
-use Rattle.list.proofs.own_right.Tie as tie
+use Rattle.clauses.proofs.own_right.Statement.{statement}
+use Rattle.clauses.proofs.own_right.Tie as tie
 
 returns : tie.Need-returns
 returns c = rw (eq-eqb _ _ (c .before .before .before .before .if1 .taken))

@@ -1,11 +1,12 @@
--- `list::init_right` meets its contract: it tests the record that `at` decodes. It asks for a target of the record's station, which
+-- `clauses::init_right` meets its contract: it tests the record that `at` decodes. It asks for a target of the record's station, which
 -- is j where the station was found right.
 -- Assumes nothing.
 use borrow.Author.Needs.{needs}
-use Rattle.rules.specs.List.{is-at, init-right}
-use Rattle.list.proofs.Tests.{same-station}
-use Rattle.list.proofs.init_right.Statement.{statement}
-use Rattle.list.proofs.init_right.Tie as tie
+use Rattle.rules.specs.List.{is-at}
+use Rattle.rules.specs.List.{init-right}
+use Rattle.clauses.proofs.Tests.{same-station}
+use Rattle.clauses.proofs.init_right.Statement.{statement}
+use Rattle.clauses.proofs.init_right.Tie as tie
 
 at-requires : tie.Need-at-requires
 at-requires c κs = search needs

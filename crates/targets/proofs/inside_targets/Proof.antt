@@ -1,10 +1,10 @@
--- `list::inside_targets` meets its contract, by what `inside_target` answers of each target.
+-- `targets::inside_targets` meets its contract, by what `inside_target` answers of each target.
 -- Assumes nothing.
 use borrow.Author.Needs.{needs}
 use borrow.Author.Tests.{eq-eqb, ne-eqb}
 use Rattle.rules.specs.List.{inside-targets}
-use Rattle.list.proofs.inside_targets.Statement.{statement}
-use Rattle.list.proofs.inside_targets.Tie as tie
+use Rattle.targets.proofs.inside_targets.Statement.{statement}
+use Rattle.targets.proofs.inside_targets.Tie as tie
 
 cast-inside-target : tie.Need-cast-inside-target
 cast-inside-target c = search needs

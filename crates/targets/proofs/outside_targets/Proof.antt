@@ -1,11 +1,11 @@
--- `list::outside_targets` meets its contract: the tests on the kind lead to its case, and there the calls answer of each target.
+-- `targets::outside_targets` meets its contract: the tests on the kind lead to its case, and there the calls answer of each target.
 -- Assumes nothing.
 use mathlib.Core.Bool.{or-false}
 use borrow.Author.Needs.{needs}
 use borrow.Author.Tests.{eq-eqb, ne-eqb}
 use Rattle.rules.specs.List.{outside-targets}
-use Rattle.list.proofs.outside_targets.Statement.{statement}
-use Rattle.list.proofs.outside_targets.Tie as tie
+use Rattle.targets.proofs.outside_targets.Statement.{statement}
+use Rattle.targets.proofs.outside_targets.Tie as tie
 
 cast-t1 : tie.Need-cast-t1
 cast-t1 c = search needs
