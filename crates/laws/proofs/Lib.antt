@@ -1,5 +1,6 @@
 pub mod Choice
 pub mod Places
+pub mod From
 pub mod Counts
 pub mod Changed
 pub mod Filled

@@ -1,2 +1,1 @@
-pub mod From
 pub mod Given

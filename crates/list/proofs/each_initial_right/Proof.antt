@@ -9,7 +9,7 @@ use borrow.Author.Needs.{needs}
 use borrow.Author.Count.{below-more}
 use borrow.Author.Tests.{not-true, not-false}
 use Rattle.rules.specs.List.{initial-right}
-use Rattle.list.proofs.From.{each-between, each-from-not}
+use Rattle.laws.proofs.From.{each-between, each-from-not}
 use Rattle.list.proofs.each_initial_right.Statement.{statement}
 use Rattle.list.proofs.each_initial_right.Tie as tie
 

@@ -8,7 +8,7 @@ use borrow.Author.Needs.{needs}
 use borrow.Author.Count.{below-more}
 use borrow.Author.Tests.{not-true, not-false}
 use Rattle.rules.specs.List.{later-right}
-use Rattle.list.proofs.From.{each-between, each-from-not}
+use Rattle.laws.proofs.From.{each-between, each-from-not}
 use Rattle.list.proofs.each_later_right.Statement.{statement}
 use Rattle.list.proofs.each_later_right.Tie as tie
 

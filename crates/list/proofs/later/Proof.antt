@@ -11,7 +11,7 @@ use borrow.Author.Count.{below-more}
 use borrow.Author.Tests.{eq-eqb, ne-eqb}
 use Rattle.rules.specs.Records.{list-record-at}
 use Rattle.rules.specs.List.{stationed, initials-after}
-use Rattle.list.proofs.From.{first-from, first-from-none}
+use Rattle.laws.proofs.From.{first-from, first-from-none}
 use Rattle.list.proofs.later.Statement.{statement}
 use Rattle.list.proofs.later.Tie as tie
 

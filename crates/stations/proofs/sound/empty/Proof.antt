@@ -9,7 +9,7 @@ use borrow.Author.Needs.{needs}
 use borrow.Author.Count.{below-more}
 use borrow.Author.Tests.{not-true, not-false}
 use Rattle.rules.specs.Names.{max-stations}
-use Rattle.list.proofs.From.{each-from, each-from-not}
+use Rattle.laws.proofs.From.{each-between, each-from-not}
 use Rattle.rules.specs.State.{empty-in}
 use Rattle.stations.proofs.sound.empty.Statement.{statement}
 use Rattle.stations.proofs.sound.empty.Tie as tie
@@ -48,7 +48,7 @@ loop-again c = (
 returns-2 : tie.Need-returns-2 Inv-loop μ-loop
 returns-2 c =
     let a = c .before .before .args in
-    sym (each-from (empty-in (a .positions) (a .priorities)) (a .n) max-stations (λ k l. c .before .loop .inv .1 k (omega arith)))
+    sym (each-between (empty-in (a .positions) (a .priorities)) (a .n) max-stations (λ k l. c .before .loop .inv .1 k (omega arith)))
 
 pub empty-spec : {M : Type 1} → statement M
 empty-spec =
