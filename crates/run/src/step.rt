@@ -3,10 +3,9 @@ ghost use mathlib.Core.Path.{_≡_};
 ghost use Prim.Native.Nat.{_<_};
 ghost use Rattle.rules.specs.Words.{values};
 ghost use Rattle.rules.specs.Names.{max-stations, max-steps};
-ghost use Rattle.rules.specs.Ready.{next-step, ready};
+ghost use Rattle.rules.specs.Ready.{ready};
 ghost use Rattle.rules.specs.Step.{stepped, picked};
 ghost use Rattle.laws.specs.Passed.{Known};
-ghost use Rattle.record.specs.View.{as-list-record};
 ghost use Rattle.run.specs.View.{as-state, as-picked};
 ghost use Rattle.run.specs.Promises.{StepPromise};
 use crate::Outcome;
@@ -92,26 +91,17 @@ impl State {
         }
     }
 
-    // The record of station j's next step.
-    fn next_step(self, list: &[u8], j: usize) -> ListRecord
-        ensures { λ r. ⌜ as-list-record r ≡ next-step (now (list .entry)) (as-state self) j ⌝ }
-    {
-        let positions = self.positions;
-        ListRecord::at(list, stations::position(positions, j))
-    }
-
     // The state after the step of a pick, where the readiness of the stations 0 to 7 before it is known.
     fn stepped(self, list: &[u8], all: [bool; 8], station: u8, reset: u8) -> State
         requires { ⌜ Known (now list) (as-state self) × (self .m < max-steps) × (all ≡ values (ready (now list) (as-state self)) max-stations) × (station < self .n) ⌝ }
         ensures { λ r. ⌜ as-state r ≡ stepped (now (list .entry)) (as-state self) (record { station = station; reset = reset }) ⌝ }
     {
         let at = station as usize;
-        let e = self.next_step(list, at);
-        let position = moves::step_position(&self.vars, e);
+        let mut positions = self.positions;
+        let e = ListRecord::at(list, positions[at] as usize);
+        positions[at] = moves::step_position(&self.vars, e);
         let vars = self.vars;
         let after = moves::step_vars(list, vars, e);
-        let mut positions = self.positions;
-        positions[at] = position;
         let priorities = self.priorities;
         State {
             vars: after,
