@@ -1,22 +1,21 @@
--- What a turn of the loop over the file does: a record more is sought, and the place of its WHILE is noted where a loop is found.
+-- What a turn of the loop over the file does: a record more is sought, and where it is an OD the place of its WHILE is noted.
 -- Assumes nothing.
 use mathlib.Core.Path.{_≡_, refl}
-use mathlib.Core.Bool.{true}
 use mathlib.Core.List.{List, [], _∷_, _++_}
 use Prim.Native.Nat.{ℕ, _+_, _≤_, _<_}
 use native.Mathlib.Numerals.{add-one}
 use native.Mathlib.Omega.{arith}
-use lib.Dec.{eqb, ltb}
+use lib.Dec.{eqb}
 use lib.ListN.{length, length-set, getD, set}
 use lib.Seq.{set-out}
-use borrow.Author.Tests.{eqb-true, ltb-true, ltb-false}
-use Rattle.rules.specs.Words.{among, values}
-use Rattle.rules.specs.Names.{STATION, SKIP, SET, IF, WHILE, OD, AWAIT}
+use borrow.Author.Tests.{ne-eqb, lt-ltb, le-ltb}
+use Rattle.rules.specs.Words.{values}
+use Rattle.rules.specs.Names.{OD}
 use Rattle.rules.specs.Records.{Record}
 use Rattle.laws.proofs.Choice.{by-test}
 use Rattle.laws.proofs.Places.{values-suc}
 use Rattle.loops.specs.declared.Seeking.{Seeking}
-use Rattle.loops.specs.Loops.{max-loops, Sought, sought, noted, seek-record, seek-records}
+use Rattle.loops.specs.Loops.{max-loops, left, Sought, sought, noted, seek-record, seek-records}
 
 seek-last : (rs : List Record) (r : Record) (x : Sought) → seek-records (rs ++ (r ∷ [])) x ≡ seek-record r (seek-records rs x)
 unfolding seek-records
@@ -35,27 +34,24 @@ pub length-noted : (kind : ℕ) (s : Seeking) (places : List ℕ) → length (no
 unfolding noted
 length-noted kind s places = by-test (eqb kind OD) (λ e. rw (e, length-set)) (λ e. rw e)
 
--- a loop is found at an OD alone, while there is room for its place
-pub found-at : (kind : ℕ) (s : Seeking) → s .found < sought kind s .found → (eqb kind OD ≡ true) × (s .found < max-loops)
-unfolding sought
-found-at kind s more =
-    by-test (eqb kind WHILE) (λ w. absurd (let h = rw w at more in omega arith))
-    (λ w. by-test (eqb kind OD)
-    (λ o. (o, by-test (ltb (s .found) max-loops) (λ r. ltb-true _ _ r) (λ r. absurd (let h = rw (w, o, r) at more in omega arith))))
-    (λ o. by-test (among kind (STATION ∷ SKIP ∷ SET ∷ IF ∷ AWAIT ∷ []))
-    (λ a. absurd (let h = rw (w, o, a) at more in omega arith))
-    (λ a. absurd (let h = rw (w, o, a) at more in omega arith))))
+-- at an OD, where there is room for one more, and where there is none; and at any other kind
+module _ (s : Seeking) where
+  pub sought-found : (kind : ℕ) → kind ≡ OD → s .found < max-loops → left (s .found + 1) s ≡ sought kind s
+  unfolding sought
+  sought-found kind e room = rw (e, lt-ltb _ _ room)
 
-module _ (kind : ℕ) (s : Seeking) (places : List ℕ) where
-  pub noted-found : s .found < sought kind s .found → set places (s .found) (getD (s .whiles) (s .depth) 0) ≡ noted kind s places
+  pub sought-full : (kind : ℕ) → kind ≡ OD → max-loops ≤ s .found → left (s .found) s ≡ sought kind s
+  unfolding sought
+  sought-full kind e full = rw (e, le-ltb _ _ full)
+
+  pub noted-found : (kind : ℕ) (places : List ℕ) → kind ≡ OD → set places (s .found) (getD (s .whiles) (s .depth) 0) ≡ noted kind s places
   unfolding noted
-  noted-found more = rw (found-at kind s more .0)
+  noted-found kind places e = rw e
 
-  pub noted-none : length places ≡ max-loops → sought kind s .found ≤ s .found → places ≡ noted kind s places
-  unfolding noted sought
-  noted-none long none =
-      by-test (eqb kind OD)
-      (λ o. by-test (ltb (s .found) max-loops)
-      (λ r. absurd (let h = rw (eqb-true kind OD o, r) at none in omega arith))
-      (λ r. let full = ltb-false (s .found) max-loops r in rw (o, set-out places (s .found) (getD (s .whiles) (s .depth) 0) (omega arith))))
-      (λ o. rw o)
+  pub noted-full : (kind : ℕ) (places : List ℕ) → kind ≡ OD → length places ≡ max-loops → max-loops ≤ s .found → places ≡ noted kind s places
+  unfolding noted
+  noted-full kind places e long full = rw (e, set-out places (s .found) (getD (s .whiles) (s .depth) 0) (omega arith))
+
+  pub noted-none : (kind : ℕ) (places : List ℕ) → (kind ≡ OD → ⊥) → places ≡ noted kind s places
+  unfolding noted
+  noted-none kind places e = rw (ne-eqb _ _ e)

@@ -21,6 +21,10 @@ seeking place = record { place = place; depth = 0; whiles = replicate (max-depth
 abbrev pub more : ℕ → ℕ
 more x = if ltb x 65535 then x + 1 else x
 
+-- after an OD, with so many found: the innermost loop is no longer open
+abbrev pub left : ℕ → Seeking → Seeking
+left found s = record { place = s .place; depth = s .depth - 1; whiles = s .whiles; found = found }
+
 -- after a record of this kind. Each STATION but the first stands for a STOP; the first makes up for a start that is one too low
 unfoldable pub sought : ℕ → Seeking → Seeking
 sought kind s =
@@ -31,13 +35,7 @@ sought kind s =
       whiles = (if ltb (s .depth) max-depth then set (s .whiles) (s .depth + 1) (s .place) else s .whiles);
       found = s .found;
     }
-    else if eqb kind OD
-    then record {
-      place = s .place;
-      depth = s .depth - 1;
-      whiles = s .whiles;
-      found = (if ltb (s .found) max-loops then s .found + 1 else s .found);
-    }
+    else if eqb kind OD then left (if ltb (s .found) max-loops then s .found + 1 else s .found) s
     else if among kind (STATION ∷ SKIP ∷ SET ∷ IF ∷ AWAIT ∷ [])
     then record { place = more (s .place); depth = s .depth; whiles = s .whiles; found = s .found }
     else s

@@ -5,7 +5,7 @@ ghost use mathlib.Core.List.{[], _∷_};
 ghost use Rattle.rules.specs.Words.{among};
 ghost use Rattle.rules.specs.Names.{STATION, SKIP, SET, IF, AWAIT, WHILE, OD};
 ghost use Rattle.rules.specs.Records.{records};
-ghost use Rattle.loops.specs.Loops.{seeking, more as moreOf, sought, seek-records, nothing-sought};
+ghost use Rattle.loops.specs.Loops.{seeking, more as moreOf, left, sought, seek-records, nothing-sought};
 use layout::entry;
 use layout::one_less;
 use record::Record;
@@ -65,15 +65,13 @@ impl Seeking {
         entry(&whiles, self.depth)
     }
 
-    // After a record of this kind.
+    // After a record of this kind, which is no OD.
     fn seek(mut self, kind: u8) -> Seeking
+        requires { ⌜ (kind ≡ OD → ⊥) ⌝ }
         ensures { λ r. ⌜ r ≡ sought kind self ⌝ }
     {
         if kind == Record::WHILE {
             return self.enter();
-        }
-        if kind == Record::OD {
-            return self.leave();
         }
         if lays_one(kind) {
             self.place = more(self.place);
@@ -95,15 +93,12 @@ impl Seeking {
         self
     }
 
-    // An OD: the innermost loop is no longer open.
-    fn leave(mut self) -> Seeking
-        ensures { λ r. ⌜ r ≡ sought OD self ⌝ }
+    // An OD: the innermost loop is no longer open, and so many are found.
+    fn leave(mut self, found: usize) -> Seeking
+        ensures { λ r. ⌜ r ≡ left found self ⌝ }
     {
-        let found = self.found;
         self.depth = one_less(self.depth);
-        if found < MAX_LOOPS {
-            self.found = found + 1;
-        }
+        self.found = found;
         self
     }
 }
@@ -129,12 +124,18 @@ pub fn find(file: &[u8], place: u16) -> Loops
     let mut i: usize = 0;
     while i < count {
         let r = Record::at(file, i);
-        let found = s.found;
-        let after = s.seek(r.kind);
-        if found < after.found {
-            places[found] = s.innermost();
+        let kind = r.kind;
+        if kind == Record::OD {
+            let found = s.found;
+            if found < MAX_LOOPS {
+                places[found] = s.innermost();
+                s = s.leave(found + 1);
+            } else {
+                s = s.leave(found);
+            }
+        } else {
+            s = s.seek(kind);
         }
-        s = after;
         i += 1;
     }
     let found = s.found;

@@ -55,7 +55,7 @@ fn wrong_length(file: &[u8]) -> bool
     ensures { λ r. ⌜ r ≡ wrong-length (now (file .entry)) ⌝ }
 {
     let bytes = file.len();
-    bytes % 8 != 0 || bytes == 0 || bytes > 8 * Record::MAX_RECORDS
+    (bytes % 8 != 0) | (bytes == 0) | (bytes > 8 * Record::MAX_RECORDS)
 }
 
 // FIELD: the place of the first record outside the document's table; the number of records where there is none.
@@ -77,7 +77,7 @@ fn wrong_count(file: &[u8]) -> bool
     ensures { λ r. ⌜ r ≡ wrong-count (now (file .entry)) ⌝ }
 {
     let stations = station_count(file);
-    stations < 1 || stations > Record::MAX_STATIONS
+    (stations < 1) | (stations > Record::MAX_STATIONS)
 }
 
 // How many STATION records the file has, wherever they stand.

@@ -1,17 +1,16 @@
 -- `loops::find` meets its contract: after i turns what is known is what the first i records of the file come to. Past the
--- 512th OD none is found, and a store there would change nothing.
+-- 512th OD there is no room, and a store there would change nothing.
 -- Assumes nothing.
 use mathlib.Core.Path.{ap, _∙_, _≡_, refl}
 use mathlib.Core.Logic.{⊎-elim}
-use Prim.Native.Nat.{_-_, _≤_, _<_}
+use Prim.Native.Nat.{_-_, _≤_}
 use native.Mathlib.Omega.{arith}
 use lib.ListN.{length}
 use borrow.Author.Needs.{needs}
 use Rattle.rules.specs.Words.{values}
 use Rattle.rules.specs.Records.{record-count, Record, record-at}
-use Rattle.loops.specs.declared.Seeking.{Seeking}
 use Rattle.loops.specs.Loops.{max-loops, sought, noted, Sought, seek-records, nothing-sought}
-use Rattle.loops.proofs.Seek.{length-noted, sought-more, found-at, noted-found, noted-none}
+use Rattle.loops.proofs.Seek.{length-noted, sought-more, sought-found, sought-full, noted-found, noted-full, noted-none}
 use Rattle.loops.proofs.find.Statement.{statement}
 use Rattle.loops.proofs.find.Tie as tie
 
@@ -25,25 +24,34 @@ Inv-loop file place count s₀ places₀ i₀ s places i =
 abbrev μ-loop : tie.MeasureT-loop
 μ-loop file place count s₀ places₀ i₀ s places i = count - i
 
--- how many loops are found after a record, and whether it is one more
-found-after : (c : tie.After-seek Inv-loop μ-loop)
-    → c .seek .result .found ≡ sought (c .before .at .result .kind) (c .before .before .before .loop .s) .found
-found-after c = ap (λ (x : Seeking). x .found) (c .seek .ensures)
+-- what is known after a record
+known :
+    (c : tie.Joined1 Inv-loop μ-loop) →
+    c .if1 .s ≡ sought (c .before .at .result .kind) (c .before .before .before .loop .s)
+known c =
+    let s = c .before .before .before .loop .s in
+    ⊎-elim
+    (λ w. w .4 ∙ w .3 .ensures ∙ sought-found s _ (w .0 .taken) (w .1 .taken))
+    (λ v. ⊎-elim
+    (λ w. w .3 ∙ w .2 .ensures ∙ sought-full s _ (w .0 .taken) (w .1 .left))
+    (λ w. w .2 ∙ w .1 .ensures)
+    v)
+    (c .if1 .came)
 
--- the place is noted of a loop that is found
+-- and the places noted
 note :
     (c : tie.Joined1 Inv-loop μ-loop) →
-    let read = c .before .before .before in
-    let head = read .before .before in
-    c .if1 .places ≡ noted (read .at .result .kind) (head .loop .s) (head .loop .places)
+    let head = c .before .before .before in
+    c .if1 .places ≡ noted (c .before .at .result .kind) (head .loop .s) (head .loop .places)
 note c =
-    let seek = c .before .before in
-    let read = seek .before in
-    let head = read .before .before in
-    let e = found-after seek in
+    let head = c .before .before .before in
+    let s = head .loop .s in
     ⊎-elim
-    (λ w. w .2 ∙ rw (w .1 .ensures) (noted-found _ _ _ (omega (arith, w .0 .taken))))
-    (λ w. w .1 ∙ noted-none _ _ _ (head .loop .inv .1) (omega (arith, w .0 .left)))
+    (λ w. w .5 ∙ rw (w .2 .ensures) (noted-found s _ _ (w .0 .taken)))
+    (λ v. ⊎-elim
+    (λ w. w .4 ∙ noted-full s _ _ (w .0 .taken) (head .loop .inv .1) (w .1 .left))
+    (λ w. w .3 ∙ noted-none s _ _ (w .0 .left))
+    v)
     (c .if1 .came)
 
 begin-requires : tie.Need-begin-requires Inv-loop μ-loop
@@ -56,25 +64,26 @@ loop-holds c = (search needs, refl, rw (c .begin .ensures))
 at-requires : tie.Need-at-requires Inv-loop μ-loop
 at-requires c κs = search needs
 
-seek-requires : tie.Need-seek-requires Inv-loop μ-loop
-seek-requires c κs = search needs
-
 innermost-requires : tie.Need-innermost-requires Inv-loop μ-loop
 innermost-requires c κs = search needs
 
--- there is room for the place
-room : (c : tie.After-innermost Inv-loop μ-loop) → c .before .before .before .before .before .before .loop .s .found < max-loops
-room c =
-    let seek = c .before .before .before in
-    let read = seek .before in
-    let e = found-after seek in
-    found-at (read .at .result .kind) (read .before .before .loop .s) (omega (arith, c .before .if1 .taken)) .1
-
 mul-places : tie.Need-mul-places Inv-loop μ-loop
-mul-places c = let h = room c in search needs
+mul-places c = search needs
 
 array-write-places : tie.Need-array-write-places Inv-loop μ-loop
-array-write-places c = let h = room c in search needs
+array-write-places c = search needs
+
+add-leave : tie.Need-add-leave Inv-loop μ-loop
+add-leave c = search needs
+
+leave-requires : tie.Need-leave-requires Inv-loop μ-loop
+leave-requires c κs = search needs
+
+leave-requires-2 : tie.Need-leave-requires-2 Inv-loop μ-loop
+leave-requires-2 c κs = search needs
+
+seek-requires : tie.Need-seek-requires Inv-loop μ-loop
+seek-requires c κs = c .if1 .left
 
 add-i : tie.Need-add-i Inv-loop μ-loop
 add-i c = search needs
@@ -84,8 +93,7 @@ loop-less c = search needs
 
 loop-again : tie.Need-loop-again Inv-loop μ-loop
 loop-again c =
-    let seek = c .before .before in
-    let read = seek .before in
+    let read = c .before in
     let head = read .before .before in
     let file = head .before .before .before .args .file .now in
     let kind : read .at .result .kind ≡ record-at file (head .loop .i) .kind =
@@ -93,7 +101,7 @@ loop-again c =
       search needs,
       ap length (note c) ∙ length-noted _ _ _ ∙ head .loop .inv .1,
       sought-more (record-at file) (head .loop .i) _ _ _ _ (head .loop .inv .2)
-          (rw kind at (seek .seek .ensures))
+          (rw kind at (known c))
           (rw kind at (note c)),
     )
 
@@ -112,10 +120,13 @@ find-spec =
     begin-requires
     loop-holds
     at-requires
-    seek-requires
     innermost-requires
     mul-places
     array-write-places
+    add-leave
+    leave-requires
+    leave-requires-2
+    seek-requires
     add-i
     loop-less
     loop-again
