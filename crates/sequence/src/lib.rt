@@ -55,7 +55,10 @@ fn wrong_length(file: &[u8]) -> bool
     ensures { λ r. ⌜ r ≡ wrong-length (now (file .entry)) ⌝ }
 {
     let bytes = file.len();
-    (bytes % 8 != 0) | (bytes == 0) | (bytes > 8 * Record::MAX_RECORDS)
+    if bytes > 8 * Record::MAX_RECORDS {
+        return true;
+    }
+    (bytes % 8 != 0) | (bytes == 0)
 }
 
 // FIELD: the place of the first record outside the document's table; the number of records where there is none.
