@@ -219,7 +219,7 @@ impl Laying {
         if is_step(kind) {
             return true;
         }
-        kind == Record::STATION && self.station != 0
+        (kind == Record::STATION) & (self.station != 0)
     }
 
     // The record of the list laid for a record of the file.

@@ -3,10 +3,9 @@ ghost use mathlib.Core.Path.{_≡_};
 ghost use mathlib.Core.Bool.{true};
 ghost use mathlib.Core.List.{_++_};
 ghost use Prim.Native.Nat.{_*_, _-_, _≤_};
-ghost use lib.Dec.{leb};
 ghost use lib.IntN.{pos};
-ghost use lib.ListN.{length, getD, replicate};
-ghost use Rattle.rules.specs.Words.{each, values, written};
+ghost use lib.ListN.{length, replicate};
+ghost use Rattle.rules.specs.Words.{values, written};
 ghost use Rattle.rules.specs.Names.{max-stations};
 ghost use Rattle.rules.specs.Records.{list-record-at, pick-at};
 ghost use Rattle.rules.specs.List.{stations, sound-list};
@@ -47,7 +46,7 @@ pub fn start(list: &[u8], b: u8, resets: &[u8], log: &mut [u8]) -> Outcome
     if resets.len() != n {
         return refused(Record::RESET);
     }
-    if !within(resets, b) {
+    if !stations::resets_within(resets, b) {
         return refused(Record::RESET);
     }
     if log.len() < 2 * n {
@@ -68,20 +67,6 @@ fn refused(number: u8) -> Outcome
         number,
         state: State::zeros(),
     }
-}
-
-// Whether each reset is at most b.
-fn within(resets: &[u8], b: u8) -> bool
-    ensures { λ r. ⌜ r ≡ each (λ j. leb (getD (now (resets .entry)) j 0) b) (length (now (resets .entry))) ⌝ }
-{
-    let mut j: usize = 0;
-    while j < resets.len() {
-        if b < resets[j] {
-            return false;
-        }
-        j += 1;
-    }
-    true
 }
 
 // The start records, each a station and its reset, written to the front of the log.

@@ -1,5 +1,5 @@
 // What is asked of the stations of a state, of its parts alone: a state is copied whole wherever it is passed, and a part of it is small.
-// `ready` has readiness and the pick order, `sound` the clauses of a sound state.
+// `ready` has readiness and the pick order, `sound` the clauses of a sound state, and the bound on a start's resets.
 ghost use mathlib.Core.Path.{_≡_};
 ghost use Rattle.rules.specs.State.{position-in, priority-in};
 use record::Record;
@@ -19,6 +19,7 @@ pub use sound::bounded;
 pub use sound::empty;
 pub use sound::few_low;
 pub use sound::placed;
+pub use sound::resets_within;
 
 // Station j's position; 0 for a station that there is no place for.
 pub fn position(positions: [u16; 8], j: usize) -> usize

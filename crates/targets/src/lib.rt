@@ -62,7 +62,8 @@ pub fn outside_targets(list: &[u8], later: usize, p: usize, e: ListRecord) -> bo
             & inside(list, later, e.station, t1)
             & outside(list, later, e.station, t2);
     }
-    if (kind == Record::SKIP) | (kind == Record::SET) {
+    let plain = (kind == Record::SKIP) | (kind == Record::SET);
+    if plain {
         return outside(list, later, e.station, t1) & (t2 == 0);
     }
     outside(list, later, e.station, t1) & outside(list, later, e.station, t2)

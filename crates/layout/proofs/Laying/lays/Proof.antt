@@ -2,7 +2,6 @@
 -- are the definition's.
 -- Assumes nothing.
 use borrow.Author.Needs.{needs}
-use borrow.Author.Tests.{eq-eqb, ne-eqb}
 use Rattle.layout.specs.Layout.{lays}
 use Rattle.layout.proofs.Laying.lays.Statement.{statement}
 use Rattle.layout.proofs.Laying.lays.Tie as tie
@@ -16,13 +15,7 @@ returns c = rw (← c .before .is-step .ensures, c .if1 .taken)
 
 returns-2 : tie.Need-returns-2
 unfolding lays
-returns-2 c =
-    let tested = c .before .before in
-    rw (← tested .before .is-step .ensures, tested .if1 .left, eq-eqb _ _ (c .before .if2 .taken))
-
-returns-3 : tie.Need-returns-3
-unfolding lays
-returns-3 c = rw (← c .before .before .is-step .ensures, c .before .if1 .left, ne-eqb _ _ (c .if2 .left))
+returns-2 c = rw (← c .before .before .is-step .ensures, c .before .if1 .left)
 
 pub lays-spec : {M : Type 1} → statement M
-lays-spec = tie.close (tie.spec is-step-requires returns returns-2 returns-3)
+lays-spec = tie.close (tie.spec is-step-requires returns returns-2)

@@ -55,8 +55,8 @@ returns-2 c =
       ne-eqb (length (a .resets .now)) (stations (a .list .now)) (λ e. differ .if2 .taken (e ∙ sym (differ .before .stations .ensures))),
     )
 
-within-requires : tie.Need-within-requires
-within-requires c κs = search needs
+resets-within-requires : tie.Need-resets-within-requires
+resets-within-requires c κs = search needs
 
 refused-requires-3 : tie.Need-refused-requires-3
 refused-requires-3 c κs = search needs
@@ -71,7 +71,7 @@ returns-3 c =
       c .refused3 .ensures .1,
       listed (same .before .before),
       eq-eqb _ _ (counted same),
-      sym (high .before .within .ensures) ∙ not-true _ (high .if3 .taken),
+      sym (high .before .resets-within .ensures) ∙ not-true _ (high .if3 .taken),
     )
 
 mul-if4 : tie.Need-mul-if4
@@ -92,7 +92,7 @@ returns-4 c =
       c .refused4 .ensures .1,
       listed (same .before .before),
       eq-eqb _ _ (counted same),
-      sym (within .before .within .ensures) ∙ not-false _ (within .if3 .left),
+      sym (within .before .resets-within .ensures) ∙ not-false _ (within .if3 .left),
       lt-ltb (length (a .log .now)) (2 * stations (a .list .now)) (omega (arith, short .if4 .taken, same .before .stations .ensures)),
     )
 
@@ -129,7 +129,7 @@ returns-5 c =
     rw (
       listed (same .before .before),
       eq-eqb _ _ (counted same),
-      sym (within .before .within .ensures) ∙ not-false _ (within .if3 .left),
+      sym (within .before .resets-within .ensures) ∙ not-false _ (within .if3 .left),
       le-ltb (length (a .log .now)) (2 * stations (a .list .now)) (omega (arith, roomy .if4 .left, same .before .stations .ensures)),
       written .write-starts .ensures,
       begun,
@@ -145,7 +145,7 @@ start-spec =
     stations-requires
     refused-requires-2
     returns-2
-    within-requires
+    resets-within-requires
     refused-requires-3
     returns-3
     mul-if4

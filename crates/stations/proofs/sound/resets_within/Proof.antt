@@ -1,4 +1,4 @@
--- `run::begin::within` meets its contract. The loop's invariant: each reset passed is at most b. The measure is what is left of them.
+-- `stations::sound::resets_within` meets its contract. The loop's invariant: each reset passed is at most b. The measure is what is left of them.
 -- Assumes nothing.
 use Prim.Native.Nat.{ℕ, _-_, _≤_, _<_}
 use mathlib.Core.Path.{_≡_, sym}
@@ -10,8 +10,8 @@ use borrow.Author.Needs.{needs}
 use borrow.Author.Count.{below-none, below-more}
 use borrow.Author.Tests.{le-leb, lt-leb}
 use Rattle.laws.proofs.Places.{each-all, each-not}
-use Rattle.run.proofs.begin.within.Statement.{statement}
-use Rattle.run.proofs.begin.within.Tie as tie
+use Rattle.stations.proofs.sound.resets_within.Statement.{statement}
+use Rattle.stations.proofs.sound.resets_within.Tie as tie
 
 abbrev Inv-loop : tie.InvT-loop
 Inv-loop resets b j₀ j = (j ≤ length resets) × ((k : ℕ) → k < j → leb (getD resets k 0) b ≡ true)
@@ -43,8 +43,8 @@ loop-again c =
 returns-2 : tie.Need-returns-2 Inv-loop μ-loop
 returns-2 c = sym (each-all _ _ (λ k l. c .before .loop .inv .1 k (omega arith)))
 
-pub within-spec : {M : Type 1} → statement M
-within-spec =
+pub resets-within-spec : {M : Type 1} → statement M
+resets-within-spec =
     tie.close
     (tie.spec
     Inv-loop
