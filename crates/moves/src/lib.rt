@@ -121,8 +121,11 @@ pub fn body_run(list: &[u8], mut place: u16, mut vars: [u32; 32]) -> [u32; 32]
         }
         let e = ListRecord::at(list, place as usize);
         place = target_after(&vars, e);
-        vars = vars_after(vars, e.own);
         left -= 1;
+        let own = e.own;
+        if own.kind == Record::SET {
+            vars = assigned(vars, own);
+        }
     }
     vars
 }

@@ -1,4 +1,4 @@
--- `values::body_run` meets its contract. The loop's invariant: what is left to run from here is the whole body. The measure is the
+-- `moves::body_run` meets its contract. The loop's invariant: what is left to run from here is the whole body. The measure is the
 -- number of records that may still be run.
 -- Assumes nothing.
 use mathlib.Core.Path.{_≡_, refl, sym, _∙_}
@@ -9,6 +9,7 @@ use Rattle.rules.specs.Move.{body-run}
 use Rattle.laws.proofs.Bodies.{body-leaves}
 use Rattle.moves.proofs.Turns.{body-turn}
 use borrow.Author.Needs.{needs}
+use borrow.Author.Tests.{eq-eqb, ne-eqb}
 use Rattle.moves.proofs.body_run.Statement.{statement}
 use Rattle.moves.proofs.body_run.Tie as tie
 
@@ -35,22 +36,37 @@ at-requires c κs = search needs
 target-after-requires : tie.Need-target-after-requires Inv-loop μ-loop
 target-after-requires c κs = search needs
 
-vars-after-requires : tie.Need-vars-after-requires Inv-loop μ-loop
-vars-after-requires c κs = search needs
-
 sub-left : tie.Need-sub-left Inv-loop μ-loop
 sub-left c = search needs
+
+assigned-requires : tie.Need-assigned-requires Inv-loop μ-loop
+assigned-requires c κs = search needs
 
 loop-less : tie.Need-loop-less Inv-loop μ-loop
 loop-less c = search needs
 
 loop-again : tie.Need-loop-again Inv-loop μ-loop
 loop-again c =
-    let found = c .before .before .before in
+    let target = c .before .before .before .before in
+    let found = target .before .before in
     let loop = found .before .before .before .loop in (
       search needs,
-      body-turn _ (loop .left - 1) (loop .place) (loop .vars) (omega arith) (found .before .if1 .left)
-          (found .at .ensures) (c .before .target-after .ensures) (c .vars-after .ensures)
+      body-turn _ (loop .left - 1) (loop .place) (loop .vars) (omega arith) (found .before .if1 .left) (found .at .ensures)
+          (target .target-after .ensures) (rw (eq-eqb _ _ (c .before .if2 .taken)) (c .assigned .ensures))
+          ∙ loop .inv .1,
+    )
+
+loop-less-2 : tie.Need-loop-less-2 Inv-loop μ-loop
+loop-less-2 c = search needs
+
+loop-again-2 : tie.Need-loop-again-2 Inv-loop μ-loop
+loop-again-2 c =
+    let target = c .before .before .before in
+    let found = target .before .before in
+    let loop = found .before .before .before .loop in (
+      search needs,
+      body-turn _ (loop .left - 1) (loop .place) (loop .vars) (omega arith) (found .before .if1 .left) (found .at .ensures)
+          (target .target-after .ensures) (rw (ne-eqb _ _ (c .if2 .left)))
           ∙ loop .inv .1,
     )
 
@@ -71,8 +87,10 @@ body-run-spec =
     cast-at
     at-requires
     target-after-requires
-    vars-after-requires
     sub-left
+    assigned-requires
     loop-less
     loop-again
+    loop-less-2
+    loop-again-2
     returns-2)
