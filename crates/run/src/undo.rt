@@ -1,12 +1,9 @@
 // UNDO: the state reached by replaying all but the last of the standing steps.
 ghost use mathlib.Core.Path.{_≡_};
-ghost use mathlib.Core.Bool.{true, _&&_};
 ghost use Prim.Native.Nat.{_+_, _*_, _≤_};
-ghost use lib.Dec.{eqb, leb};
 ghost use lib.ListN.{length};
-ghost use Rattle.rules.specs.Words.{each, refusal};
+ghost use Rattle.rules.specs.Words.{refusal};
 ghost use Rattle.rules.specs.Names.{max-steps};
-ghost use Rattle.rules.specs.Records.{pick-at};
 ghost use Rattle.rules.specs.Undo.{replay, before-replay};
 ghost use Rattle.laws.specs.Passed.{Known};
 ghost use Rattle.run.specs.View.{as-state, as-undone};
@@ -15,25 +12,6 @@ use crate::Outcome;
 use crate::State;
 use crate::begin;
 use record::Record;
-
-// Whether the first n records of a log are start records in their places, with resets of at most b.
-fn starts_right(log: &[u8], n: usize, b: u8) -> bool
-    requires { ⌜ 2 * n ≤ length (now log) ⌝ }
-    ensures { λ r. ⌜ r ≡ each (λ j. eqb (pick-at (now (log .entry)) j .station) j && leb (pick-at (now (log .entry)) j .reset) b) n ⌝ }
-{
-    let mut j: usize = 0;
-    while j < n {
-        let at = 2 * j;
-        if log[at] as usize != j {
-            return false;
-        }
-        if b < log[at + 1] {
-            return false;
-        }
-        j += 1;
-    }
-    true
-}
 
 impl State {
     // The state before the last step, made anew from the log. The log stays.
@@ -76,7 +54,7 @@ impl State {
         if log.len() < 2 * (n + self.m as usize) {
             return Record::LOG;
         }
-        if !starts_right(log, n, self.b) {
+        if !starts::right(log, self.n, self.b) {
             return Record::LOG;
         }
         0

@@ -12,7 +12,7 @@ use Rattle.laws.specs.Passed.{CanStep}
 use Rattle.laws.proofs.Answers.{step-picked}
 use Rattle.run.specs.View.{as-state}
 use Rattle.run.proofs.Picks.{few-steps}
-use Rattle.run.proofs.Written.{written-record}
+use Rattle.starts.proofs.Written.{written-record}
 use Rattle.run.proofs.State.sound_step.Statement.{statement}
 use Rattle.run.proofs.State.sound_step.Tie as tie
 

@@ -54,9 +54,7 @@ cast-m : tie.Need-cast-m
 cast-m c = search needs
 
 begun-requires : tie.Need-begun-requires
-begun-requires c κs =
-    let tested = c .before .before in
-    (passed tested .of-list, omega (arith, counted tested, passed tested .room))
+begun-requires c κs = passed (c .before .before) .of-list
 
 sub-replay : tie.Need-sub-replay
 sub-replay c = omega (arith, passed (c .before .before .before) .some-steps)

@@ -1,10 +1,13 @@
 -- `run::State::undo_refusal` meets its contract: the first test that refuses decides.
 -- Assumes nothing.
+use Prim.Native.Nat.{_*_}
 use mathlib.Core.Path.{_≡_, refl, sym, _∙_}
 use mathlib.Core.Bool.{Bool, true, false, not}
 use mathlib.Core.List.{[], _∷_}
+use native.Mathlib.Omega.{arith}
+use lib.ListN.{length}
 use borrow.Author.Needs.{needs}
-use borrow.Author.Tests.{eq-eqb, ne-eqb, lt-ltb, le-ltb, not-true, not-false}
+use borrow.Author.Tests.{eq-eqb, ne-eqb, le-leb, lt-ltb, le-ltb, not-true, not-false}
 use Rattle.rules.specs.Words.{if_then_else_, judge, refusal, _refuses_at_}
 use Rattle.rules.specs.Names.{LOG}
 use Rattle.rules.specs.List.{sound-list}
@@ -25,11 +28,14 @@ stated : (c : tie.Else2) → let a = c .before .before .before .before .before .
 stated c = sym (c .before .sound2 .ensures) ∙ not-false _ (c .if2 .left)
 
 -- so that the start records tested are the list's
-tested : (c : tie.After-starts-right) → let a = c .before .before .before .before .before .before .before .before .before .before .before .before .args in
-    starts-right (a .list .now) (a .self .b) (a .log .now) ≡ c .starts-right .result
+tested : (c : tie.After-right) → let a = c .before .before .before .before .before .before .before .before .before .before .before .before .args in
+    starts-right (a .list .now) (a .self .b) (a .log .now) ≡ c .right .result
 tested c =
-    let sound = c .before .before .before .before .before .before in
-    starts-counted _ _ _ _ (sound-means _ _ .0 (stated sound) .of-list) ∙ sym (c .starts-right .ensures)
+    let roomy = c .before in
+    let sound = roomy .before .before .before .before .before in
+    let a = sound .before .before .before .before .before .before .args in
+    let room = le-leb (2 * a .self .n) (length (a .log .now)) (omega (arith, roomy .if4 .left)) in
+    starts-counted _ _ _ _ (sound-means _ _ .0 (stated sound) .of-list) ∙ sym (rw room at (c .right .ensures))
 
 -- a test of the start records alone
 by-starts : (right : Bool) → (if right then 0 else LOG) ≡ refusal ((not right refuses LOG at 0) ∷ [])
@@ -38,7 +44,7 @@ by-starts true = refl
 by-starts false = refl
 
 -- where nothing refuses before them, the start records decide
-decided : (c : tie.After-starts-right) (right : Bool) → c .starts-right .result ≡ right
+decided : (c : tie.After-right) (right : Bool) → c .right .result ≡ right
     → let a = c .before .before .before .before .before .before .before .before .before .before .before .before .args in
     (if right then 0 else LOG) ≡ refusal (before-replay (a .list .now) (as-state (a .self)) (a .log .now))
 unfolding judge
@@ -95,8 +101,8 @@ returns-4 c =
     let sound = some .before .before in
     rw (listed (sound .before .before), stated sound, ne-eqb _ _ (some .if3 .left), lt-ltb _ _ (c .if4 .taken))
 
-starts-right-requires : tie.Need-starts-right-requires
-starts-right-requires c κs = search needs
+right-requires : tie.Need-right-requires
+right-requires c κs = search needs
 
 returns-5 : tie.Need-returns-5
 returns-5 c = decided (c .before) false (not-true _ (c .if5 .taken))
@@ -118,6 +124,6 @@ undo-refusal-spec =
     add-if4
     mul-if4
     returns-4
-    starts-right-requires
+    right-requires
     returns-5
     returns-6)

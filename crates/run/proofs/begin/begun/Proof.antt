@@ -1,9 +1,11 @@
 -- `run::begin::begun` meets its contract.
 -- Assumes nothing.
-use Prim.Native.Nat.{_-_}
+use Prim.Native.Nat.{_-_, _≤_, min}
 use mathlib.Core.Path.{_≡_}
+use native.Mathlib.Nat.{min-eq-left}
 use native.Mathlib.Omega.{arith}
 use borrow.Author.Needs.{needs}
+use Rattle.rules.specs.Names.{max-stations}
 use Rattle.rules.specs.List.{initials}
 use Rattle.rules.specs.Start.{started}
 use Rattle.list.proofs.Given.{later-counted}
@@ -26,22 +28,17 @@ initial-run-requires : tie.Need-initial-run-requires
 initial-run-requires c κs = search needs
 
 first-steps-requires : tie.Need-first-steps-requires
-first-steps-requires c κs =
-    let counted = c .before .before in
-    omega (arith, counted .stations .ensures, few-stations _ (counted .before .before .before .pre .0))
+first-steps-requires c κs = search needs
 
 first-priorities-requires : tie.Need-first-priorities-requires
-first-priorities-requires c κs =
-    let counted = c .before .before .before in
-    let pre = counted .before .before .before .pre in (
-      omega (arith, counted .stations .ensures, few-stations _ (pre .0)),
-      omega (arith, counted .stations .ensures, pre .1),
-    )
+first-priorities-requires c κs = search needs
+
+-- at most eight stations
+few : (c : tie.After-stations) → c .stations .result ≤ max-stations
+few c = omega (arith, c .stations .ensures, few-stations _ (c .before .before .before .pre))
 
 cast-t11 : tie.Need-cast-t11
-cast-t11 c =
-    let counted = c .before .before .before .before in
-    omega (arith, counted .stations .ensures, few-stations _ (counted .before .before .before .pre .0))
+cast-t11 c = omega (arith, few (c .before .before .before .before))
 
 returns : tie.Need-returns
 unfolding started
@@ -51,11 +48,13 @@ returns c =
     let first = later-counted _ (counted .stations .ensures) (found .later .ensures) in
     let initial : found .later .result - counted .stations .result ≡ initials (counted .before .before .before .args .list .now) =
     omega (arith, counted .stations .ensures) in
+    let all : min (counted .stations .result) max-stations ≡ counted .stations .result = min-eq-left (few counted) in
     rw (
       c .before .before .initial-run .ensures,
       c .before .first-steps .ensures,
       c .first-priorities .ensures,
       initial,
+      all,
       counted .stations .ensures,
       map-values,
     )

@@ -1,15 +1,17 @@
 use Prim.Native.Nat.{_*_}
 use mathlib.Core.Path.{_≡_, sym, _∙_}
-use mathlib.Core.Bool.{true}
-use native.Mathlib.Omega.{arith}
-use lib.ListN.{length}
+use mathlib.Core.Bool.{true, false}
+use lib.Dec.{leb}
+use lib.ListN.{length, getD}
 use borrow.Author.Needs.{needs}
-use borrow.Author.Tests.{eq-eqb, ne-eqb, lt-ltb, le-ltb, not-true, not-false}
-use Rattle.rules.specs.Words.{judge}
+use borrow.Author.Tests.{eq-eqb, ne-eqb, le-leb, leb-true, leb-false, lt-ltb, le-ltb, not-true, not-false}
+use Rattle.rules.specs.Words.{each, judge}
+use Rattle.rules.specs.Names.{max-stations}
 use Rattle.rules.specs.List.{stations, sound-list}
 use Rattle.rules.specs.Start as rules
 use Rattle.laws.proofs.Sound.{few-stations}
-use Rattle.run.proofs.Written.{resets-back}
+use Rattle.starts.specs.Room.{room}
+use Rattle.starts.proofs.Written.{resets-back}
 use Rattle.run.proofs.begin.start.Statement.{statement}
 use Rattle.run.proofs.begin.start.Tie as tie
 
@@ -74,64 +76,75 @@ returns-3 c =
       sym (high .before .resets-within .ensures) ∙ not-true _ (high .if3 .taken),
     )
 
-mul-if4 : tie.Need-mul-if4
-mul-if4 c = search needs
+-- past the third none is above b
+within : (c : tie.Else3) → let a = c .before .before .before .before .before .before .before .before .before .args in
+    each (λ j. leb (getD (a .resets .now) j 0) (a .b)) (length (a .resets .now)) ≡ true
+within c = sym (c .before .resets-within .ensures) ∙ not-false _ (c .if3 .left)
+
+write-requires : tie.Need-write-requires
+write-requires c κs = search needs
+
+-- the resets are few, so that the start records want room in the log alone
+roomy : (c : tie.After-slice-known2) → let a = c .before .before .before .before .before .before .before .before .before .before .before .before .before .args in
+    room (length (a .resets .now)) (a .log .now) ≡ leb (2 * stations (a .list .now)) (length (a .log .now))
+roomy c =
+    let same = c .before .before .before .before .before .before in
+    let a = same .before .before .before .before .before .before .before .args in
+    rw (counted same, le-leb (stations (a .list .now)) max-stations (few-stations _ (listed (same .before .before))))
 
 refused-requires-4 : tie.Need-refused-requires-4
 refused-requires-4 c κs = search needs
+
+same-length : tie.Need-same-length
+same-length c = search needs
 
 returns-4 : tie.Need-returns-4
 unfolding rules.start judge
 returns-4 c =
     let short = c .before in
-    let within = short .before in
-    let same = within .before .before in
+    let known = short .before in
+    let passed = known .before .before .before .before in
+    let same = passed .before .before in
     let a = same .before .before .before .before .before .before .before .args in
+    let written = known .before .before .write .ensures in
+    let none : room (length (a .resets .now)) (a .log .now) ≡ false = sym (written .0) ∙ not-true _ (short .if4 .taken) in
     rw (
       c .refused4 .ensures .0,
       c .refused4 .ensures .1,
       listed (same .before .before),
       eq-eqb _ _ (counted same),
-      sym (within .before .resets-within .ensures) ∙ not-false _ (within .if3 .left),
-      lt-ltb (length (a .log .now)) (2 * stations (a .list .now)) (omega (arith, short .if4 .taken, same .before .stations .ensures)),
-    )
-
-write-starts-requires : tie.Need-write-starts-requires
-write-starts-requires c κs =
-    let roomy = c .before in
-    let same = roomy .before .before .before in
-    let n = counted same in (
-      omega (arith, few-stations _ (listed (same .before .before))),
-      omega (arith, roomy .if4 .left, same .before .stations .ensures),
+      within passed,
+      lt-ltb (length (a .log .now)) (2 * stations (a .list .now)) (leb-false _ _ (sym (roomy known) ∙ none)),
+      written .1,
+      none,
     )
 
 begun-requires : tie.Need-begun-requires
 begun-requires c κs =
-    let written = c .before .before .before in
-    let roomy = written .before .before in
-    let same = roomy .before .before .before in (
-      listed (same .before .before),
-      omega (arith, written .write-starts .kept .0, roomy .if4 .left, same .before .stations .ensures),
-    )
+    let passed = c .before .before .before .before .before .before in
+    listed (passed .before .before .before .before)
 
-same-length : tie.Need-same-length
-same-length c = search needs
+same-length-2 : tie.Need-same-length-2
+same-length-2 c = search needs
 
 returns-5 : tie.Need-returns-5
 unfolding rules.start judge
 returns-5 c =
-    let written = c .before .before .before .before in
-    let roomy = written .before .before in
-    let within = roomy .before in
-    let same = within .before .before in
+    let had = c .before .before in
+    let known = had .before in
+    let passed = known .before .before .before .before in
+    let same = passed .before .before in
     let a = same .before .before .before .before .before .before .before .args in
-    let begun = rw (written .write-starts .ensures, ← counted same, resets-back (a .log .now) (a .resets .now)) at (c .begun .ensures) in
+    let written = known .before .before .write .ensures in
+    let all : room (length (a .resets .now)) (a .log .now) ≡ true = sym (written .0) ∙ not-false _ (had .if4 .left) in
+    let log = rw all at (written .1) in
+    let begun = rw (log, ← counted same, resets-back (a .log .now) (a .resets .now)) at (c .begun .ensures) in
     rw (
       listed (same .before .before),
       eq-eqb _ _ (counted same),
-      sym (within .before .resets-within .ensures) ∙ not-false _ (within .if3 .left),
-      le-ltb (length (a .log .now)) (2 * stations (a .list .now)) (omega (arith, roomy .if4 .left, same .before .stations .ensures)),
-      written .write-starts .ensures,
+      within passed,
+      le-ltb (length (a .log .now)) (2 * stations (a .list .now)) (leb-true _ _ (sym (roomy known) ∙ all)),
+      log,
       begun,
     )
 
@@ -148,10 +161,10 @@ start-spec =
     resets-within-requires
     refused-requires-3
     returns-3
-    mul-if4
+    write-requires
     refused-requires-4
-    returns-4
-    write-starts-requires
-    begun-requires
     same-length
+    returns-4
+    begun-requires
+    same-length-2
     returns-5)

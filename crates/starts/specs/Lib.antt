@@ -1,0 +1,2 @@
+-- What the start records of a log ask.
+pub mod Room

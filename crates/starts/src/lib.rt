@@ -1,0 +1,107 @@
+// The start records at the front of a log, and the positions and priorities that a run begins with, over any list, log and number of
+// stations whatever. There is room for eight stations; those past them are left out.
+ghost use mathlib.Core.Path.{_≡_};
+ghost use mathlib.Core.Bool.{_&&_};
+ghost use mathlib.Core.List.{_++_};
+ghost use Prim.Native.Nat.{_*_, _-_, min};
+ghost use lib.Dec.{eqb, leb};
+ghost use lib.IntN.{pos};
+ghost use lib.ListN.{length, replicate};
+ghost use Rattle.rules.specs.Words.{if_then_else_, each, values, written};
+ghost use Rattle.rules.specs.Names.{max-stations};
+ghost use Rattle.rules.specs.Records.{list-record-at, pick-at};
+ghost use Rattle.rules.specs.Start.{start-records};
+ghost use Rattle.starts.specs.Room.{room};
+use record::ListRecord;
+use record::Record;
+
+// Writes a start record for each reset, a station and its reset, to the front of the log, and answers whether there was room for them:
+// in the log, and among eight stations. Where there was not, nothing is written.
+pub fn write(log: &mut [u8], resets: &[u8]) -> bool
+    ensures { λ r. ⌜ (r ≡ room (length (now (resets .entry))) (now (log .entry))) × (now (log .exit) ≡ (if room (length (now (resets .entry))) (now (log .entry)) then written (now (log .entry)) 0 (start-records 0 (now (resets .entry))) else now (log .entry))) ⌝ }
+{
+    if Record::MAX_STATIONS < resets.len() {
+        return false;
+    }
+    if log.len() < 2 * resets.len() {
+        return false;
+    }
+    let mut j: usize = 0;
+    while j < resets.len() {
+        let at = 2 * j;
+        log[at] = j as u8;
+        log[at + 1] = resets[j];
+        j += 1;
+    }
+    true
+}
+
+// Whether the log begins with a start record for each of n stations, in their places, with resets of at most b.
+pub fn right(log: &[u8], n: u8, b: u8) -> bool
+    ensures { λ r. ⌜ r ≡ (leb (2 * n) (length (now (log .entry))) && each (λ j. eqb (pick-at (now (log .entry)) j .station) j && leb (pick-at (now (log .entry)) j .reset) b) n) ⌝ }
+{
+    let n = n as usize;
+    if log.len() < 2 * n {
+        return false;
+    }
+    let mut j: usize = 0;
+    while j < n {
+        if log[2 * j] as usize != j {
+            return false;
+        }
+        if b < log[2 * j + 1] {
+            return false;
+        }
+        j += 1;
+    }
+    true
+}
+
+// A number of stations, at most eight.
+fn few(n: usize) -> usize
+    ensures { λ r. ⌜ r ≡ min n max-stations ⌝ }
+{
+    if n < Record::MAX_STATIONS {
+        return n;
+    }
+    Record::MAX_STATIONS
+}
+
+// Each station's first step, by its INIT; 0 from station n on.
+pub fn first_steps(list: &[u8], n: usize) -> [u16; 8]
+    ensures { λ r. ⌜ r ≡ values (λ j. list-record-at (now (list .entry)) j .t1) (min n max-stations) ++ replicate (max-stations - min n max-stations) 0 ⌝ }
+{
+    let count = few(n);
+    let mut positions = [0u16; 8];
+    let mut j: usize = 0;
+    while j < count {
+        let e = ListRecord::at(list, j);
+        positions[j] = e.t1;
+        j += 1;
+    }
+    positions
+}
+
+// The reset of record j of a log; past its end 0.
+fn reset_at(log: &[u8], j: usize) -> u8
+    ensures { λ r. ⌜ r ≡ pick-at (now (log .entry)) j .reset ⌝ }
+{
+    if j < log.len() / 2 {
+        return log[2 * j + 1];
+    }
+    0
+}
+
+// Each station's reset in the start records of a log; 0 from station n on.
+pub fn first_priorities(log: &[u8], n: usize) -> [i16; 8]
+    ensures { λ r. ⌜ r ≡ values (λ j. pos (pick-at (now (log .entry)) j .reset)) (min n max-stations) ++ replicate (max-stations - min n max-stations) (pos 0) ⌝ }
+{
+    let count = few(n);
+    let mut priorities = [0i16; 8];
+    let mut j: usize = 0;
+    while j < count {
+        priorities[j] = reset_at(log, j) as i16;
+        j += 1;
+    }
+    priorities
+}
