@@ -28,7 +28,7 @@ pub fn waiting_at(vars: &[u32; 32], e: ListRecord) -> bool
 {
     let own = e.own;
     if own.kind == Record::AWAIT {
-        return !moves::holds(vars, own);
+        return !values::holds(vars, own);
     }
     false
 }

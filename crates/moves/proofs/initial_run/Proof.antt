@@ -1,4 +1,4 @@
--- `values::initial_run` meets its contract. The loop's invariant: what is left to run from here is the whole run. The measure is the
+-- `moves::initial_run` meets its contract. The loop's invariant: what is left to run from here is the whole run. The measure is the
 -- number of records left.
 -- Assumes nothing.
 use mathlib.Core.Path.{_≡_, refl, _∙_}

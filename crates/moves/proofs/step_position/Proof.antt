@@ -1,4 +1,4 @@
--- `values::step_position` meets its contract: an AWAIT leads to its t2.
+-- `moves::step_position` meets its contract: an AWAIT leads to its t2.
 -- Assumes nothing.
 use borrow.Author.Tests.{ne-eqb}
 use Rattle.rules.specs.Names.{AWAIT}

@@ -1,4 +1,4 @@
--- `values::step_vars` meets its contract: an AWAIT runs its body.
+-- `moves::step_vars` meets its contract: an AWAIT runs its body.
 -- Assumes nothing.
 use borrow.Author.Tests.{eq-eqb, ne-eqb}
 use Rattle.rules.specs.Names.{AWAIT}

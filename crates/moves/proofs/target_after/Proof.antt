@@ -1,4 +1,4 @@
--- `values::target_after` meets its contract: IF and WHILE are the kinds that test.
+-- `moves::target_after` meets its contract: IF and WHILE are the kinds that test.
 -- Assumes nothing.
 use mathlib.Core.Path.{_≡_}
 use mathlib.Core.Bool.{true, or-true}

@@ -1,4 +1,4 @@
--- `values::vars_after` meets its contract: a SET assigns, and every other kind leaves the variables.
+-- `moves::vars_after` meets its contract: a SET assigns, and every other kind leaves the variables.
 -- Assumes nothing.
 use borrow.Author.Tests.{eq-eqb, ne-eqb}
 use Rattle.rules.specs.Names.{SET}

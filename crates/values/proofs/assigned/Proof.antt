@@ -7,8 +7,8 @@ use lib.Seq.{set-out}
 use borrow.Kind.Array.{eInt, good-length}
 use mir.Syntax.{w32}
 use borrow.Author.Needs.{needs}
-use Rattle.moves.proofs.assigned.Statement.{statement}
-use Rattle.moves.proofs.assigned.Tie as tie
+use Rattle.values.proofs.assigned.Statement.{statement}
+use Rattle.values.proofs.assigned.Tie as tie
 
 value-requires : tie.Need-value-requires
 value-requires c κs = search needs

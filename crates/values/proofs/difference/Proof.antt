@@ -2,8 +2,8 @@
 -- Assumes nothing.
 use native.Mathlib.Omega.{arith}
 use borrow.Author.Needs.{needs}
-use Rattle.moves.proofs.difference.Statement.{statement}
-use Rattle.moves.proofs.difference.Tie as tie
+use Rattle.values.proofs.difference.Statement.{statement}
+use Rattle.values.proofs.difference.Tie as tie
 
 wrapping-sub-u32-requires : tie.Need-wrapping-sub-u32-requires
 wrapping-sub-u32-requires c κs = search needs

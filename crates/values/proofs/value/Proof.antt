@@ -3,8 +3,8 @@
 use borrow.Author.Tests.{ne-eqb}
 use Rattle.rules.specs.Values.{set-value}
 use borrow.Author.Needs.{needs}
-use Rattle.moves.proofs.value.Statement.{statement}
-use Rattle.moves.proofs.value.Tie as tie
+use Rattle.values.proofs.value.Statement.{statement}
+use Rattle.values.proofs.value.Tie as tie
 
 cast-variable : tie.Need-cast-variable
 cast-variable c = search needs

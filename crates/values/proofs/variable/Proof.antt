@@ -3,8 +3,8 @@
 use mathlib.Core.Path.{sym}
 use lib.ListN.{List·getD-eq-default}
 use borrow.Author.Needs.{needs}
-use Rattle.moves.proofs.variable.Statement.{statement}
-use Rattle.moves.proofs.variable.Tie as tie
+use Rattle.values.proofs.variable.Statement.{statement}
+use Rattle.values.proofs.variable.Tie as tie
 
 mul-result : tie.Need-mul-result
 mul-result c = search needs

@@ -3,8 +3,8 @@
 use borrow.Author.Tests.{lt-ltb, le-ltb}
 use Rattle.rules.specs.Values.{holds}
 use borrow.Author.Needs.{needs}
-use Rattle.moves.proofs.holds.Statement.{statement}
-use Rattle.moves.proofs.holds.Tie as tie
+use Rattle.values.proofs.holds.Statement.{statement}
+use Rattle.values.proofs.holds.Tie as tie
 
 cast-variable : tie.Need-cast-variable
 cast-variable c = search needs

@@ -1,8 +1,8 @@
 -- `values::compared` meets its contract: the arms are the comparisons in the order of their numbers.
 -- Assumes nothing.
 use borrow.Author.Tests.{ne-eqb}
-use Rattle.moves.proofs.compared.Statement.{statement}
-use Rattle.moves.proofs.compared.Tie as tie
+use Rattle.values.proofs.compared.Statement.{statement}
+use Rattle.values.proofs.compared.Tie as tie
 
 returns : tie.Need-returns
 returns c = rw (c .match .keys1)
