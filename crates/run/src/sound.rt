@@ -19,11 +19,11 @@ impl State {
         }
         let positions = self.positions;
         let priorities = self.priorities;
-        if !stations::placed(list, list::later(list, n), positions, self.n) {
+        if !standing::placed(list, list::later(list, n), positions, self.n) {
             return false;
         }
-        stations::bounded(priorities, self.n, self.b)
-            & stations::few_low(priorities, self.n)
-            & stations::empty(positions, priorities, self.n)
+        standing::bounded(priorities, self.n, self.b)
+            & standing::few_low(priorities, self.n)
+            & standing::empty(positions, priorities, self.n)
     }
 }

@@ -1,3 +1,1 @@
-pub mod Signed
-pub mod Clauses
 pub mod Known

@@ -1,34 +1,108 @@
-// What is asked of the stations of a state, of its parts alone: a state is copied whole wherever it is passed, and a part of it is small.
-// `ready` has readiness and the pick order, `sound` the clauses of a sound state, and the bound on a start's resets.
+// Readiness and pick order, of the parts of a state alone: the record of a station's next step, the variables, the positions and the
+// priorities. A state is copied whole wherever it is passed, and a part of it is small.
 ghost use mathlib.Core.Path.{_≡_};
+ghost use mathlib.Core.Bool.{false, not};
+ghost use mathlib.Core.List.{[], _∷_};
+ghost use lib.ListN.{getD};
+ghost use Rattle.rules.specs.Words.{values, _refuses_at_, refusal};
+ghost use Rattle.rules.specs.Names.{NOT-READY, TURN, RESET, max-stations};
+ghost use Rattle.rules.specs.Records.{list-record-at};
+ghost use Rattle.record.specs.View.{as-list-record};
 ghost use Rattle.rules.specs.State.{position-in, priority-in};
+ghost use Rattle.rules.specs.Ready.{ended-at, waiting-at, ready-at};
+ghost use Rattle.rules.specs.Turn.{yields-to, lowest-of};
+use record::ListRecord;
 use record::Record;
 
-mod ready;
-mod sound;
-
-pub use ready::ended_at;
-pub use ready::lowest_of;
-pub use ready::pick_refusal;
-pub use ready::readiness;
-pub use ready::ready_at;
-pub use ready::ready_in;
-pub use ready::waiting_at;
-pub use ready::yields;
-pub use sound::bounded;
-pub use sound::empty;
-pub use sound::few_low;
-pub use sound::placed;
-pub use sound::resets_within;
-
-// Station j's position; 0 for a station that there is no place for.
-pub fn position(positions: [u16; 8], j: usize) -> usize
-    ensures { λ r. ⌜ r ≡ position-in positions j ⌝ }
+// Whether a station whose next step is e has ended.
+pub fn ended_at(e: ListRecord) -> bool
+    ensures { λ r. ⌜ r ≡ ended-at (as-list-record e) ⌝ }
 {
-    if j < Record::MAX_STATIONS {
-        return positions[j] as usize;
+    let own = e.own;
+    own.kind == Record::STOP
+}
+
+// Whether a station whose next step is e is waiting.
+pub fn waiting_at(vars: &[u32; 32], e: ListRecord) -> bool
+    ensures { λ r. ⌜ r ≡ waiting-at (now (vars .entry)) (as-list-record e) ⌝ }
+{
+    let own = e.own;
+    if own.kind == Record::AWAIT {
+        return !values::holds(vars, own);
+    }
+    false
+}
+
+// Whether a station whose next step is e is ready.
+pub fn ready_at(vars: &[u32; 32], e: ListRecord) -> bool
+    ensures { λ r. ⌜ r ≡ ready-at (now (vars .entry)) (as-list-record e) ⌝ }
+{
+    !ended_at(e) & !waiting_at(vars, e)
+}
+
+// Whether each of the stations 0 to 7 is ready, with these variables and positions.
+pub fn readiness(list: &[u8], vars: &[u32; 32], positions: [u16; 8]) -> [bool; 8]
+    ensures { λ r. ⌜ r ≡ values (λ j. ready-at (now (vars .entry)) (list-record-at (now (list .entry)) (position-in positions j))) max-stations ⌝ }
+{
+    let mut all = [false; 8];
+    let mut j: usize = 0;
+    while j < Record::MAX_STATIONS {
+        let e = ListRecord::at(list, positions[j] as usize);
+        all[j] = ready_at(vars, e);
+        j += 1;
+    }
+    all
+}
+
+// Whether none of n stations is ready and has a lower priority than station i.
+pub fn lowest_of(all: [bool; 8], priorities: [i16; 8], n: usize, i: usize) -> bool
+    ensures { λ r. ⌜ r ≡ lowest-of n (λ j. getD all j false) (priority-in priorities) i ⌝ }
+{
+    let mut j: usize = 0;
+    while j < n {
+        if !yields(ready_in(all, j), priorities, i, j) {
+            return false;
+        }
+        j += 1;
+    }
+    true
+}
+
+// Whether station j, ready or not, does not come before station i.
+pub fn yields(ready: bool, priorities: [i16; 8], i: usize, j: usize) -> bool
+    ensures { λ r. ⌜ r ≡ yields-to ready (priority-in priorities i) (priority-in priorities j) ⌝ }
+{
+    if ready {
+        return priority(priorities, i) <= priority(priorities, j);
+    }
+    true
+}
+
+// What refuses the pick of a station of the list, of tests 11 to 13 in their order: it is not ready, it is not lowest, the reset is above
+// b. 0 where nothing does.
+pub fn pick_refusal(ready: bool, lowest: bool, above: bool) -> u8
+    ensures { λ r. ⌜ r ≡ refusal ((not ready refuses NOT-READY at 0) ∷ (not lowest refuses TURN at 0) ∷ (above refuses RESET at 0) ∷ []) ⌝ }
+{
+    if !ready {
+        return Record::NOT_READY;
+    }
+    if !lowest {
+        return Record::TURN;
+    }
+    if above {
+        return Record::RESET;
     }
     0
+}
+
+// Whether station j is ready, where that is known of the stations 0 to 7; a station past those is not.
+pub fn ready_in(all: [bool; 8], j: usize) -> bool
+    ensures { λ r. ⌜ r ≡ getD all j false ⌝ }
+{
+    if j < Record::MAX_STATIONS {
+        return all[j];
+    }
+    false
 }
 
 // Station j's priority; 0 for a station that there is no place for.
