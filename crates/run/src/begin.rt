@@ -40,7 +40,7 @@ pub fn start(list: &[u8], b: u8, resets: &[u8], log: &mut [u8]) -> Outcome
     if resets.len() != n {
         return refused(Record::RESET);
     }
-    if !standing::resets_within(resets, b) {
+    if !starts::resets_within(resets, b) {
         return refused(Record::RESET);
     }
     if !starts::write(log, resets) {

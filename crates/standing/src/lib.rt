@@ -1,9 +1,7 @@
-// What a sound state asks of the positions and the priorities, clause by clause, of any values, and what a start asks of its resets.
+// What a sound state asks of the positions and the priorities, clause by clause, of any values.
 ghost use mathlib.Core.Path.{_≡_};
 ghost use Prim.Native.Nat.{suc, _+_, _-_};
-ghost use lib.Dec.{leb};
 ghost use lib.IntN.{pos, negℤ};
-ghost use lib.ListN.{length, getD};
 ghost use lib.Signed.{leZ};
 ghost use Rattle.rules.specs.Words.{each, tally};
 ghost use Rattle.rules.specs.Names.{max-stations};
@@ -116,18 +114,4 @@ fn empty_at(positions: [u16; 8], priorities: [i16; 8], j: usize) -> bool
     ensures { λ r. ⌜ r ≡ empty-in positions priorities j ⌝ }
 {
     (position(positions, j) == 0) & (priority(priorities, j) == 0)
-}
-
-// Whether each reset is at most b.
-pub fn resets_within(resets: &[u8], b: u8) -> bool
-    ensures { λ r. ⌜ r ≡ each (λ j. leb (getD (now (resets .entry)) j 0) b) (length (now (resets .entry))) ⌝ }
-{
-    let mut j: usize = 0;
-    while j < resets.len() {
-        if b < resets[j] {
-            return false;
-        }
-        j += 1;
-    }
-    true
 }

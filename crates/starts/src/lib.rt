@@ -1,12 +1,12 @@
-// The start records at the front of a log, and the positions and priorities that a run begins with, over any list, log and number of
-// stations whatever. There is room for eight stations; those past them are left out.
+// What a start asks of its resets, the start records at the front of a log, and the positions and priorities that a run begins with, over
+// any list, log and number of stations whatever. There is room for eight stations; those past them are left out.
 ghost use mathlib.Core.Path.{_≡_};
 ghost use mathlib.Core.Bool.{_&&_};
 ghost use mathlib.Core.List.{_++_};
 ghost use Prim.Native.Nat.{_*_, _-_, min};
 ghost use lib.Dec.{eqb, leb};
 ghost use lib.IntN.{pos};
-ghost use lib.ListN.{length, replicate};
+ghost use lib.ListN.{length, getD, replicate};
 ghost use Rattle.rules.specs.Words.{if_then_else_, each, values, written};
 ghost use Rattle.rules.specs.Names.{max-stations};
 ghost use Rattle.rules.specs.Records.{list-record-at, pick-at};
@@ -14,6 +14,20 @@ ghost use Rattle.rules.specs.Start.{start-records};
 ghost use Rattle.starts.specs.Room.{room};
 use record::ListRecord;
 use record::Record;
+
+// Whether each reset is at most b.
+pub fn resets_within(resets: &[u8], b: u8) -> bool
+    ensures { λ r. ⌜ r ≡ each (λ j. leb (getD (now (resets .entry)) j 0) b) (length (now (resets .entry))) ⌝ }
+{
+    let mut j: usize = 0;
+    while j < resets.len() {
+        if b < resets[j] {
+            return false;
+        }
+        j += 1;
+    }
+    true
+}
 
 // Writes a start record for each reset, a station and its reset, to the front of the log, and answers whether there was room for them:
 // in the log, and among eight stations. Where there was not, nothing is written.

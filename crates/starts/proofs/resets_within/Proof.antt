@@ -1,4 +1,4 @@
--- `standing::resets_within` meets its contract. The loop's invariant: each reset passed is at most b. The measure is what is left of them.
+-- `starts::resets_within` meets its contract. The loop's invariant: each reset passed is at most b. The measure is what is left of them.
 -- Assumes nothing.
 use Prim.Native.Nat.{ℕ, _-_, _≤_, _<_}
 use mathlib.Core.Path.{_≡_, sym}
@@ -10,8 +10,8 @@ use borrow.Author.Needs.{needs}
 use borrow.Author.Count.{below-none, below-more}
 use borrow.Author.Tests.{le-leb, lt-leb}
 use Rattle.laws.proofs.Places.{each-all, each-not}
-use Rattle.standing.proofs.resets_within.Statement.{statement}
-use Rattle.standing.proofs.resets_within.Tie as tie
+use Rattle.starts.proofs.resets_within.Statement.{statement}
+use Rattle.starts.proofs.resets_within.Tie as tie
 
 abbrev Inv-loop : tie.InvT-loop
 Inv-loop resets b j₀ j = (j ≤ length resets) × ((k : ℕ) → k < j → leb (getD resets k 0) b ≡ true)
