@@ -1,4 +1,4 @@
-// Whether a state is sound against a list, of any values in any field. `stations` has the clauses on positions and priorities.
+// Whether a state is sound against a list, of any values in any field. `soundness` has the clauses on positions and priorities.
 ghost use mathlib.Core.Path.{_≡_};
 ghost use Rattle.rules.specs.State.{sound-state};
 ghost use Rattle.run.specs.View.{as-state};
@@ -19,11 +19,11 @@ impl State {
         }
         let positions = self.positions;
         let priorities = self.priorities;
-        if !standing::placed(list, list::later(list, n), positions, self.n) {
+        if !soundness::placed(list, list::later(list, n), positions, self.n) {
             return false;
         }
-        standing::bounded(priorities, self.n, self.b)
-            & standing::few_low(priorities, self.n)
-            & standing::empty(positions, priorities, self.n)
+        soundness::bounded(priorities, self.n, self.b)
+            & soundness::few_low(priorities, self.n)
+            & soundness::empty(positions, priorities, self.n)
     }
 }

@@ -32,7 +32,7 @@ fn difference(x: u32, y: u32) -> u32
 }
 
 // The value that a SET gives its variable, by its op.
-pub fn value(vars: &[u32; 32], r: Record) -> u32
+fn value(vars: &[u32; 32], r: Record) -> u32
     ensures { λ x. ⌜ x ≡ set-value (now (vars .entry)) (as-record r) ⌝ }
 {
     let b = variable(vars, r.b as usize);

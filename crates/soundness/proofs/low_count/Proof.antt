@@ -1,4 +1,4 @@
--- `standing::low_count` meets its contract. The loop's invariant: those passed are counted. The measure is what is left of the stations.
+-- `soundness::low_count` meets its contract. The loop's invariant: those passed are counted. The measure is what is left of the stations.
 -- Assumes nothing.
 use Prim.Native.Nat.{ℕ, _-_, _≤_}
 use mathlib.Core.Path.{_≡_, refl, _∙_}
@@ -12,8 +12,8 @@ use borrow.Author.Needs.{needs}
 use Rattle.rules.specs.Words.{tally}
 use Rattle.laws.proofs.Places.{tally-suc, tally-within}
 use Rattle.rules.specs.State.{priority-in}
-use Rattle.standing.proofs.low_count.Statement.{statement}
-use Rattle.standing.proofs.low_count.Tie as tie
+use Rattle.soundness.proofs.low_count.Statement.{statement}
+use Rattle.soundness.proofs.low_count.Tie as tie
 
 abbrev Inv-loop : tie.InvT-loop
 Inv-loop priorities n k n' count₀ j₀ count j = (j ≤ n) × (count ≡ tally (λ i. leZ (priority-in priorities i) (negℤ (pos k))) j)

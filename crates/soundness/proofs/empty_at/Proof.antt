@@ -1,9 +1,9 @@
--- `standing::empty_at` meets its contract.
+-- `soundness::empty_at` meets its contract.
 -- Assumes nothing.
 use borrow.Author.Needs.{needs}
-use Rattle.standing.proofs.Signed.{is-zero}
-use Rattle.standing.proofs.empty_at.Statement.{statement}
-use Rattle.standing.proofs.empty_at.Tie as tie
+use Rattle.soundness.proofs.Signed.{is-zero}
+use Rattle.soundness.proofs.empty_at.Statement.{statement}
+use Rattle.soundness.proofs.empty_at.Tie as tie
 
 position-requires : tie.Need-position-requires
 position-requires c κs = search needs

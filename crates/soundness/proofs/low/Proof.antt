@@ -1,13 +1,13 @@
--- `standing::low` meets its contract.
+-- `soundness::low` meets its contract.
 -- Assumes nothing.
 use native.Mathlib.Omega.{arith}
 use mir.Syntax.{w16}
 use mir.ValLaws.{toZ-ofZ, toZ-pos}
 use lib.IntN.{+ℤ-idl}
 use borrow.Author.Needs.{needs}
-use Rattle.standing.proofs.Signed.{sfits-neg}
-use Rattle.standing.proofs.low.Statement.{statement}
-use Rattle.standing.proofs.low.Tie as tie
+use Rattle.soundness.proofs.Signed.{sfits-neg}
+use Rattle.soundness.proofs.low.Statement.{statement}
+use Rattle.soundness.proofs.low.Tie as tie
 
 priority-requires : tie.Need-priority-requires
 priority-requires c κs = search needs

@@ -11,7 +11,7 @@ use record::Record;
 use stations::priority;
 
 // Station j's position; 0 for a station that there is no place for.
-pub fn position(positions: [u16; 8], j: usize) -> usize
+fn position(positions: [u16; 8], j: usize) -> usize
     ensures { λ r. ⌜ r ≡ position-in positions j ⌝ }
 {
     if j < Record::MAX_STATIONS {

@@ -1,11 +1,11 @@
--- `standing::within` meets its contract.
+-- `soundness::within` meets its contract.
 -- Assumes nothing.
 use native.Mathlib.Omega.{arith}
 use mir.Syntax.{w16}
 use mir.ValLaws.{toZ-ofZ, toZ-pos}
 use borrow.Author.Needs.{needs}
-use Rattle.standing.proofs.within.Statement.{statement}
-use Rattle.standing.proofs.within.Tie as tie
+use Rattle.soundness.proofs.within.Statement.{statement}
+use Rattle.soundness.proofs.within.Tie as tie
 
 priority-requires : tie.Need-priority-requires
 priority-requires c κs = search needs

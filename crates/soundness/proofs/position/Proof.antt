@@ -1,11 +1,11 @@
--- `standing::position` meets its contract.
+-- `soundness::position` meets its contract.
 -- Assumes nothing.
 use mathlib.Core.Path.{_≡_, sym}
 use native.Mathlib.Omega.{arith}
 use lib.ListN.{length, List·getD-eq-default}
 use borrow.Author.Needs.{needs}
-use Rattle.standing.proofs.position.Statement.{statement}
-use Rattle.standing.proofs.position.Tie as tie
+use Rattle.soundness.proofs.position.Statement.{statement}
+use Rattle.soundness.proofs.position.Tie as tie
 
 mul-result : tie.Need-mul-result
 mul-result c = search needs

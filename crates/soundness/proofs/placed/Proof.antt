@@ -1,4 +1,4 @@
--- `standing::placed` meets its contract. The loop's invariant: each station passed stands right. The measure is what is left of the
+-- `soundness::placed` meets its contract. The loop's invariant: each station passed stands right. The measure is what is left of the
 -- stations.
 -- Assumes nothing.
 use Prim.Native.Nat.{ℕ, _-_, _≤_, _<_}
@@ -11,8 +11,8 @@ use borrow.Author.Tests.{not-true, not-false}
 use Rattle.laws.proofs.Places.{each-all, each-not}
 use Rattle.rules.specs.List.{is-at}
 use Rattle.rules.specs.State.{position-in}
-use Rattle.standing.proofs.placed.Statement.{statement}
-use Rattle.standing.proofs.placed.Tie as tie
+use Rattle.soundness.proofs.placed.Statement.{statement}
+use Rattle.soundness.proofs.placed.Tie as tie
 
 abbrev Inv-loop : tie.InvT-loop
 Inv-loop list later positions n n' j₀ j =

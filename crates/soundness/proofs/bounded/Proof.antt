@@ -1,4 +1,4 @@
--- `standing::bounded` meets its contract. The loop's invariant: each priority passed is at most b. The measure is what is left of the
+-- `soundness::bounded` meets its contract. The loop's invariant: each priority passed is at most b. The measure is what is left of the
 -- stations.
 -- Assumes nothing.
 use Prim.Native.Nat.{ℕ, _-_, _≤_, _<_}
@@ -12,8 +12,8 @@ use borrow.Author.Count.{below-none, below-more}
 use borrow.Author.Tests.{not-true, not-false}
 use Rattle.laws.proofs.Places.{each-all, each-not}
 use Rattle.rules.specs.State.{priority-in}
-use Rattle.standing.proofs.bounded.Statement.{statement}
-use Rattle.standing.proofs.bounded.Tie as tie
+use Rattle.soundness.proofs.bounded.Statement.{statement}
+use Rattle.soundness.proofs.bounded.Tie as tie
 
 abbrev Inv-loop : tie.InvT-loop
 Inv-loop priorities n b n' j₀ j = (j ≤ n) × ((k : ℕ) → k < j → leZ (priority-in priorities k) (pos b) ≡ true)

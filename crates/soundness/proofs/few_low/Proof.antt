@@ -1,4 +1,4 @@
--- `standing::few_low` meets its contract. The loop's invariant: each k passed has few enough. The measure is what is left of the stations.
+-- `soundness::few_low` meets its contract. The loop's invariant: each k passed has few enough. The measure is what is left of the stations.
 -- Assumes nothing.
 use Prim.Native.Nat.{ℕ, suc, _+_, _-_, _≤_, _<_}
 use mathlib.Core.Path.{_≡_, sym, _∙_}
@@ -11,9 +11,9 @@ use borrow.Author.Count.{below-none, below-more}
 use borrow.Author.Tests.{le-leb, lt-leb}
 use Rattle.laws.proofs.Places.{each-all, each-not, tally-within}
 use Rattle.rules.specs.State.{priority-in, few-low-in}
-use Rattle.standing.proofs.Clauses.{few-low-counted}
-use Rattle.standing.proofs.few_low.Statement.{statement}
-use Rattle.standing.proofs.few_low.Tie as tie
+use Rattle.soundness.proofs.Clauses.{few-low-counted}
+use Rattle.soundness.proofs.few_low.Statement.{statement}
+use Rattle.soundness.proofs.few_low.Tie as tie
 
 abbrev Inv-loop : tie.InvT-loop
 Inv-loop priorities n i₀ i = (i ≤ n) × ((k : ℕ) → k < i → few-low-in priorities n (suc k) ≡ true)

@@ -1,4 +1,4 @@
--- `standing::empty` meets its contract. The loop's invariant: each place passed, from n on, is empty. The measure is what is left of the
+-- `soundness::empty` meets its contract. The loop's invariant: each place passed, from n on, is empty. The measure is what is left of the
 -- places.
 -- Assumes nothing.
 use Prim.Native.Nat.{ℕ, _-_, _≤_, _<_}
@@ -11,8 +11,8 @@ use borrow.Author.Tests.{not-true, not-false}
 use Rattle.rules.specs.Names.{max-stations}
 use Rattle.laws.proofs.From.{each-between, each-from-not}
 use Rattle.rules.specs.State.{empty-in}
-use Rattle.standing.proofs.empty.Statement.{statement}
-use Rattle.standing.proofs.empty.Tie as tie
+use Rattle.soundness.proofs.empty.Statement.{statement}
+use Rattle.soundness.proofs.empty.Tie as tie
 
 abbrev Inv-loop : tie.InvT-loop
 Inv-loop positions priorities n j₀ j = (n ≤ j) × ((k : ℕ) → k < j → n ≤ k → empty-in positions priorities k ≡ true)
