@@ -5,8 +5,7 @@ ghost use Rattle.build.specs.Promises.{BuildPromise};
 ghost use Rattle.run.specs.View.{as-state};
 ghost use Rattle.run.specs.Promises.{StartPromise, StepPromise, RunPromise, UndoPromise};
 ghost use Rattle.lights.specs.Promises.{LightsPromise};
-ghost use Rattle.panel.specs.Promises.{AdvancePromise};
-use crate::advance;
+ghost use Rattle.lent.specs.Promises.{AdvancePromise};
 use build::Built;
 use lights::Lights;
 use run::Outcome;
@@ -65,7 +64,7 @@ pub extern "C" fn press_advance(
 ) -> u8
     ensures { λ r. ⌜ AdvancePromise (now (list .entry)) (as-state (now (state .entry))) (now (log .entry)) (record { station = station; reset = reset }) r (now (state .exit)) (now (log .exit)) ⌝ }
 {
-    advance(state, list, log, station, reset)
+    lent::advance(state, list, log, station, reset)
 }
 
 // The steps of the picks, until one is refused, the picks end or the most-steps number is reached, with their records in the log. A refused

@@ -41,11 +41,11 @@ use denote.Exit.{yes}
 use Rattle.run.specs.declared.State.{State}
 use Rattle.run.specs.View.{as-state}
 use Rattle.run.proofs.State as T
-use Rattle.panel.specs.Promises.{AdvancePromise}
-use Rattle.panel.proofs.advance as advance
-use Rattle.panel.proofs.advance.Symbol as advance-def
-use Rattle.panel.proofs.advance.Symbol.{name as #advance}
-use Rattle.panel.proofs.advance.Met as advance-thm
+use Rattle.lent.specs.Promises.{AdvancePromise}
+use Rattle.lent.proofs.advance as advance
+use Rattle.lent.proofs.advance.Symbol as advance-def
+use Rattle.lent.proofs.advance.Symbol.{name as #advance}
+use Rattle.lent.proofs.advance.Met as advance-thm
 use Rattle.panel.proofs.exports.press_advance.Key.{name as #press-advance}
 use Rattle.panel.proofs.exports.press_advance as f
 use Rattle.panel.proofs.exports.press_advance.Statement as stated
@@ -152,4 +152,4 @@ press-advance-spec 𝓤 H 𝓜 𝓖 𝓡 =
     entered 𝓤 H (tripleOf 𝓤 H (𝓖 .A) f.signature (f.spec 𝓤 H (𝓖 .A) (𝓜 .mem) (𝓡 .run)))
     (tables 𝓤 H 𝓜 𝓡 code.env .C) (tables 𝓤 H 𝓜 𝓡 code.env .Λ) #press-advance code.function (code.unfolded 𝓤 H 𝓜 𝓡)
     (press-advance-meets 𝓤 H (𝓖 .A) (givenOf 𝓤 H 𝓜 𝓖) (𝓜 .mem) (𝓡 .run) (tablesOf 𝓤 H 𝓜 (tables 𝓤 H 𝓜 𝓡 code.env))
-    (cited 𝓤 H (Advance 𝓤 H (𝓖 .A) (𝓜 .mem) (𝓡 .run)) 𝓜 𝓡 code.env #advance advance-def.routine code.calls-panel·advance (advance-thm.met 𝓤 H 𝓜 𝓖 𝓡)))
+    (cited 𝓤 H (Advance 𝓤 H (𝓖 .A) (𝓜 .mem) (𝓡 .run)) 𝓜 𝓡 code.env #advance advance-def.routine code.calls-lent·advance (advance-thm.met 𝓤 H 𝓜 𝓖 𝓡)))

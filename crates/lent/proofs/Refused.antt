@@ -12,7 +12,7 @@ use Rattle.run.specs.declared.State.{State}
 use Rattle.run.specs.declared.Outcome.{Outcome}
 use Rattle.run.specs.View.{as-state}
 use Rattle.run.specs.Promises.{StepPromise}
-use Rattle.panel.specs.Promises.{AdvancePromise}
+use Rattle.lent.specs.Promises.{AdvancePromise}
 
 fails : (y : Bool) → Holds (not y) → y ≡ false
 fails true t = absurd t

@@ -7,7 +7,7 @@ use Rattle.rules.specs.State as rules-state
 use Rattle.run.specs.declared.State.{State}
 use Rattle.run.specs.declared.Outcome.{Outcome}
 use Rattle.run.proofs.Only.{step-only}
-use Rattle.panel.specs.Promises.{AdvancePromise}
+use Rattle.lent.specs.Promises.{AdvancePromise}
 
 pub advance-only : (list : List ℕ) (given : rules-state.State) (log : List ℕ) (p : Pick) (r s : ℕ) (left found : State) (after later : List ℕ)
     → AdvancePromise list given log p r left after → AdvancePromise list given log p s found later

@@ -1,4 +1,4 @@
--- `panel::advance` meets its contract: a walk of its MIR, by hand. The borrow of the state is opened, the state given is copied out and passed
+-- `lent::advance` meets its contract: a walk of its MIR, by hand. The borrow of the state is opened, the state given is copied out and passed
 -- to `step` with the slices, and the log is given up to `step` at its own lifetime, share and name. Where the number is 0 the answer's state is
 -- stored; where it is not, the state given stays. Either way the borrow is closed at what lies there. Assumes nothing.
 use mathlib.Core.Path.{_≡_, refl, ap}
@@ -55,13 +55,13 @@ use Rattle.run.proofs.State.step as step
 use Rattle.run.proofs.State.step.Symbol as step-def
 use Rattle.run.proofs.State.step.Symbol.{name as #step}
 use Rattle.run.proofs.State.step.Met as step-thm
-use Rattle.panel.specs.Promises.{AdvancePromise}
-use Rattle.panel.proofs.Refused.{stays}
-use Rattle.panel.proofs.advance.Key.{name as #advance}
-use Rattle.panel.proofs.advance as f
-use Rattle.panel.proofs.advance.Statement as stated
-use Rattle.panel.proofs.advance.Code as code
-use Rattle.panel.proofs.advance.Code.Mir as body
+use Rattle.lent.specs.Promises.{AdvancePromise}
+use Rattle.lent.proofs.Refused.{stays}
+use Rattle.lent.proofs.advance.Key.{name as #advance}
+use Rattle.lent.proofs.advance as f
+use Rattle.lent.proofs.advance.Statement as stated
+use Rattle.lent.proofs.advance.Code as code
+use Rattle.lent.proofs.advance.Code.Mir as body
 
 abbrev stayed : Stays (f.ended .signature .params) (f.ended .kept)
 stayed = (stay-ref (0 ∷ []) tt (plain (λ _. T.the-row)), (stay-dropped (shrSliceOf (1 ∷ []) tt (plain (λ _. u8))) yes, (gave-slice (2 ∷ []) tt (plain (λ _. u8)), (stay-dropped (plain (λ _. u8)) yes, (stay-dropped (plain (λ _. u8)) yes, tt)))))

@@ -7,7 +7,7 @@ use Rattle.rules.specs.Records.{Pick}
 use Rattle.rules.specs.State as rules-state
 use Rattle.rules.specs.Step as rules
 use Rattle.run.specs.declared.State.{State}
-use Rattle.panel.specs.View.{as-advanced}
+use Rattle.lent.specs.View.{as-advanced}
 
 -- what advancing promises of the number that it answers, of the state that it leaves and of the log afterwards
 abbrev pub AdvancePromise : List ℕ → rules-state.State → List ℕ → Pick → ℕ → State → List ℕ → Type 0
