@@ -117,8 +117,8 @@ pub(crate) fn lights(list: &[u8], given: State) -> bool {
 
 // The length and H of all that the trace prints.
 pub(crate) fn trace(program: &[u8], starts: &[u8], picks: &[u8]) -> bool {
-    let mut list = [0u8; Tracer::LIST_BYTES];
-    let mut log = [0u8; Tracer::LOG_BYTES];
+    let mut list = [0u8; sizes::LIST_BYTES];
+    let mut log = [0u8; sizes::LOG_BYTES];
     let first = tracing::open(program, starts, &mut list, &mut log);
     trace_from(first, &list, &mut log, picks)
 }

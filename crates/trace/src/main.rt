@@ -41,16 +41,16 @@ fn print_all(first: Tracer, list: &[u8], log: &mut [u8], picks: &[u8]) {
 
 // Prints the trace of three files.
 fn trace(program: &[u8], starts: &[u8], picks: &[u8]) {
-    let mut list = [0u8; Tracer::LIST_BYTES];
-    let mut log = [0u8; Tracer::LOG_BYTES];
+    let mut list = [0u8; sizes::LIST_BYTES];
+    let mut log = [0u8; sizes::LOG_BYTES];
     let first = tracing::open(program, starts, &mut list, &mut log);
     print_all(first, &list, &mut log, picks);
 }
 
 fn main() {
-    let mut program = [0u8; Tracer::ENOUGH];
-    let mut starts = [0u8; Tracer::ENOUGH_STARTS];
-    let mut picks = [0u8; Tracer::ENOUGH];
+    let mut program = [0u8; sizes::ENOUGH];
+    let mut starts = [0u8; sizes::ENOUGH_STARTS];
+    let mut picks = [0u8; sizes::ENOUGH];
     let program_count = read(b"program.rec", &mut program);
     let starts_count = read(b"start.rec", &mut starts);
     let picks_count = read(b"picks.rec", &mut picks);

@@ -18,7 +18,8 @@ use Rattle.rules.specs.Start.{start}
 use Rattle.rules.specs.Trace.{end-line, line, wrong-picks, run-text, start-text, trace}
 use Rattle.laws.proofs.Choice.{by-test}
 use Rattle.laws.proofs.Sound.{few-stations}
-use Rattle.tracing.specs.Claims.{enough, enough-starts, Enough}
+use Rattle.sizes.specs.Sizes.{enough, enough-starts}
+use Rattle.tracing.specs.Claims.{Enough}
 
 -- what decides the same of a file of at most so many bytes, and of any that is longer, decides the same of its first so many
 by-front : {A : Type 0} (f : List ℕ → A) (other : A) (most : ℕ) (file : List ℕ) → ((long : List ℕ) → most ≤ length long → f long ≡ other)

@@ -2,10 +2,10 @@
 -- proofs/Enough.antt show them.
 use mathlib.Core.Path.{_≡_}
 use mathlib.Core.List.{List, _++_}
-use Prim.Native.Nat.{ℕ, _+_, _*_, _/_, _≤_}
+use Prim.Native.Nat.{ℕ, _+_, _/_, _≤_}
 use lib.ListN.{length, take, replicate}
-use Rattle.rules.specs.Names.{max-records, max-list, max-stations, max-steps}
 use Rattle.rules.specs.Trace.{trace}
+use Rattle.sizes.specs.Sizes.{enough, enough-starts, list-bytes, log-bytes}
 use Rattle.tracing.specs.Tracing.{Tracing, piece, still, Opened, opened, printed}
 
 -- a piece is what comes first of what is still to be printed; the rest is still to be printed after it
@@ -13,13 +13,6 @@ abbrev pub PieceFirst : Type 0
 PieceFirst =
     (list picks log : List ℕ) (t : Tracing)
     → let p = piece list picks log t in still list picks log t ≡ p .text ++ still list picks (p .log) (p .tracing)
-
--- bytes of the longest list, and of the longest log
-abbrev pub list-bytes : ℕ
-list-bytes = 16 * max-list
-
-abbrev pub log-bytes : ℕ
-log-bytes = 2 * (max-stations + max-steps)
 
 -- where the trace of two files begins, in buffers that are never short
 abbrev pub fresh-opened : List ℕ → List ℕ → Opened
@@ -31,13 +24,7 @@ Traced =
     (program starts picks : List ℕ) (turns : ℕ) → 2 + length picks / 2 ≤ turns
     → let o = fresh-opened program starts in printed turns (o .list) picks (o .log) (o .tracing) ≡ trace program starts picks
 
--- so many bytes of a program or a picks file, and of a start file, are enough: one more than either may have
-abbrev pub enough : ℕ
-enough = 8 * max-records + 1
-
-abbrev pub enough-starts : ℕ
-enough-starts = 1 + max-stations + 1
-
+-- so many bytes of a program or a picks file, and of a start file, are enough
 abbrev pub Enough : Type 0
 Enough =
     (program starts picks : List ℕ)
