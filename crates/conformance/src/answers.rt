@@ -6,6 +6,7 @@ use crate::hash::after_text;
 use crate::hash::hash;
 use crate::lines::line;
 use crate::states::hash_state;
+use lights::Lights;
 use run::State;
 use tracing::Tracer;
 
@@ -41,7 +42,7 @@ pub(crate) fn build(program: &[u8], list: &mut [u8]) -> bool {
             built.number as u64,
             built.place as u64,
             built.count as u64,
-            hash(list) as u64,
+            hash(list),
         ],
     )
 }
@@ -52,11 +53,7 @@ pub(crate) fn start(list: &[u8], b: u8, resets: &[u8], log: &mut [u8]) -> bool {
     let state = started.state;
     line(
         START,
-        &[
-            started.number as u64,
-            hash_state(state) as u64,
-            hash(log) as u64,
-        ],
+        &[started.number as u64, hash_state(state), hash(log)],
     )
 }
 
@@ -64,14 +61,7 @@ pub(crate) fn start(list: &[u8], b: u8, resets: &[u8], log: &mut [u8]) -> bool {
 pub(crate) fn step(list: &[u8], given: State, log: &mut [u8], station: u8, reset: u8) -> bool {
     let stepped = given.step(list, log, station, reset);
     let state = stepped.state;
-    line(
-        STEP,
-        &[
-            stepped.number as u64,
-            hash_state(state) as u64,
-            hash(log) as u64,
-        ],
-    )
+    line(STEP, &[stepped.number as u64, hash_state(state), hash(log)])
 }
 
 // The number, the steps taken, the state and the log.
@@ -83,8 +73,8 @@ pub(crate) fn run(list: &[u8], given: State, log: &mut [u8], picks: &[u8], most:
         &[
             ran.number as u64,
             ran.steps as u64,
-            hash_state(state) as u64,
-            hash(log) as u64,
+            hash_state(state),
+            hash(log),
         ],
     )
 }
@@ -93,15 +83,12 @@ pub(crate) fn run(list: &[u8], given: State, log: &mut [u8], picks: &[u8], most:
 pub(crate) fn undo(list: &[u8], given: State, log: &[u8]) -> bool {
     let undone = given.undo(list, log);
     let state = undone.state;
-    line(UNDO, &[undone.number as u64, hash_state(state) as u64])
+    line(UNDO, &[undone.number as u64, hash_state(state)])
 }
 
 // The number, the four masks, and the two rows together.
 pub(crate) fn lights(list: &[u8], given: State) -> bool {
     let lit = lights::lights(given, list);
-    let rows = lit.rows();
-    let reads = rows[0];
-    let writes = rows[1];
     line(
         LIGHTS,
         &[
@@ -110,9 +97,17 @@ pub(crate) fn lights(list: &[u8], given: State) -> bool {
             lit.in_turn as u64,
             lit.waiting as u64,
             lit.ended as u64,
-            after_row(after_row(NONE, reads), writes) as u64,
+            hash_rows(lit),
         ],
     )
+}
+
+// H of the two rows together.
+fn hash_rows(lit: Lights) -> u64 {
+    let rows = lit.rows();
+    let reads = rows[0];
+    let writes = rows[1];
+    after_row(after_row(NONE, reads), writes) as u64
 }
 
 // The length and H of all that the trace prints.

@@ -5,8 +5,8 @@ use text::Text;
 pub(crate) const NONE: u32 = 7;
 
 // H of some bytes.
-pub(crate) fn hash(bytes: &[u8]) -> u32 {
-    after(NONE, bytes)
+pub(crate) fn hash(bytes: &[u8]) -> u64 {
+    after(NONE, bytes) as u64
 }
 
 // H after a row of the lights.

@@ -21,12 +21,7 @@ mod states;
 // Reads a case, which begins with its call's number, and writes its line. It answers whether to go on: not at the end of the stream, at a
 // number that no call has, or where the line cannot be written.
 fn answer(file: i32) -> bool {
-    let mut first = [0u8; 1];
-    if io::read_full(file, &mut first) == 0 {
-        return false;
-    }
-    let call = first[0];
-    match call {
+    match fields::byte(file) {
         CHECK => cases::check(file),
         BUILD => cases::build(file),
         START => cases::start(file),

@@ -1,14 +1,14 @@
--- `conformance::states::after_words` is safe and ends. Nothing has to hold from turn to turn; the measure is what is left of the 32. Assumes nothing.
+-- `conformance::states::after_vars` is safe and ends. Nothing has to hold from turn to turn; the measure is what is left of the 32. Assumes nothing.
 use Prim.Native.Nat.{_-_}
 use borrow.Author.Needs.{needs}
-use Rattle.conformance.proofs.states.after_words.Statement.{statement}
-use Rattle.conformance.proofs.states.after_words.Tie as tie
+use Rattle.conformance.proofs.states.after_vars.Statement.{statement}
+use Rattle.conformance.proofs.states.after_vars.Tie as tie
 
 abbrev Inv-loop : tie.InvT-loop
-Inv-loop h words sum₀ i₀ sum i = Unit {0}
+Inv-loop h vars sum₀ i₀ sum i = Unit {0}
 
 abbrev μ-loop : tie.MeasureT-loop
-μ-loop h words sum₀ i₀ sum i = 32 - i
+μ-loop h vars sum₀ i₀ sum i = 32 - i
 
 loop-holds : tie.Need-loop-holds Inv-loop μ-loop
 loop-holds c = search needs
@@ -34,8 +34,8 @@ loop-again c = search needs
 returns : tie.Need-returns Inv-loop μ-loop
 returns c = search needs
 
-pub after-words-spec : {M : Type 1} → statement M
-after-words-spec =
+pub after-vars-spec : {M : Type 1} → statement M
+after-vars-spec =
     tie.close
     (tie.spec
     Inv-loop
