@@ -45,8 +45,7 @@ impl State {
                 state: self,
             };
         }
-        let at = 2 * (self.n as usize + self.m as usize);
-        if log.len() < at + 2 {
+        if !logs::room(log, self.n, self.m) {
             return Outcome {
                 number: Record::ROOM,
                 state: self,
@@ -56,8 +55,7 @@ impl State {
         if taken.number != 0 {
             return taken;
         }
-        log[at] = station;
-        log[at + 1] = reset;
+        logs::put(log, self.n, self.m, station, reset);
         taken
     }
 

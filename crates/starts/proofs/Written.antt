@@ -1,4 +1,4 @@
--- Bytes written to a log, one after another. Assumes nothing.
+-- Start records written to a log, one after another. Assumes nothing.
 use Prim.Native.Nat.{ℕ, suc, _+_, _*_, _≤_, _<_}
 use mathlib.Core.Path.{_≡_, refl}
 use mathlib.Core.List.{List, [], _∷_, _++_, append-assoc}
@@ -11,15 +11,7 @@ use Rattle.rules.specs.Words.{values, written}
 use Rattle.rules.specs.Records.{pick-at}
 use Rattle.rules.specs.Start.{start-records}
 use Rattle.laws.proofs.Written.{length-starts, resets-behind}
-
--- a buffer that is long enough has the bytes set one by one
-written-sets : (log : List ℕ) (at : ℕ) (bytes : List ℕ) → at + length bytes ≤ length log → written log at bytes ≡ sets log at bytes
-unfolding written
-written-sets log at bytes room = rw (sets-eq bytes log at room, append-assoc)
-
--- a record of two bytes
-pub written-record : (log : List ℕ) (at a b : ℕ) → at + 2 ≤ length log → set (set log at a) (at + 1) b ≡ written log at (a ∷ b ∷ [])
-written-record log at a b room = rw (written-sets log at (a ∷ b ∷ []) room, add-one)
+use Rattle.logs.proofs.Written.{written-sets}
 
 -- bytes after bytes
 sets-append : (log : List ℕ) (at : ℕ) (bytes more : List ℕ) → sets log at (bytes ++ more) ≡ sets (sets log at bytes) (at + length bytes) more
