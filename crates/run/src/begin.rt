@@ -72,8 +72,8 @@ pub(crate) fn begun(list: &[u8], b: u8, log: &[u8]) -> State
     let vars = moves::initial_run(list, n, initials, [0u32; 32]);
     State {
         vars,
-        positions: starts::first_steps(list, n),
-        priorities: starts::first_priorities(log, n),
+        positions: outset::first_steps(list, n),
+        priorities: outset::first_priorities(log, n),
         n: n as u8,
         b,
         m: 0,

@@ -1,4 +1,4 @@
--- `starts::first_steps` meets its contract. The loop's invariant: the places passed are filled. The measure is what is left of the
+-- `outset::first_steps` meets its contract. The loop's invariant: the places passed are filled. The measure is what is left of the
 -- stations.
 -- Assumes nothing.
 use Prim.Native.Nat.{_-_, _≤_, _<_, min}
@@ -9,8 +9,8 @@ use borrow.Author.Needs.{needs}
 use Rattle.rules.specs.Names.{max-stations}
 use Rattle.rules.specs.Records.{ListRecord, list-record-at}
 use Rattle.laws.proofs.Filled.{filled, filled-none, filled-more}
-use Rattle.starts.proofs.first_steps.Statement.{statement}
-use Rattle.starts.proofs.first_steps.Tie as tie
+use Rattle.outset.proofs.first_steps.Statement.{statement}
+use Rattle.outset.proofs.first_steps.Tie as tie
 
 abbrev Inv-loop : tie.InvT-loop
 Inv-loop list n count positions₀ j₀ positions j =

@@ -1,11 +1,11 @@
--- `starts::reset_at` meets its contract. Assumes nothing.
+-- `outset::reset_at` meets its contract. Assumes nothing.
 use mathlib.Core.Path.{sym}
 use Prim.Native.Nat.{_+_, _*_}
 use native.Mathlib.Omega.{arith}
 use borrow.Author.Needs.{needs}
 use lib.ListN.{List·getD-eq-default}
-use Rattle.starts.proofs.reset_at.Statement.{statement}
-use Rattle.starts.proofs.reset_at.Tie as tie
+use Rattle.outset.proofs.reset_at.Statement.{statement}
+use Rattle.outset.proofs.reset_at.Tie as tie
 
 mul-result : tie.Need-mul-result
 mul-result c = search needs

@@ -1,4 +1,4 @@
--- `starts::first_priorities` meets its contract. The loop's invariant: the places passed are filled. The measure is what is left of the
+-- `outset::first_priorities` meets its contract. The loop's invariant: the places passed are filled. The measure is what is left of the
 -- stations.
 -- Assumes nothing.
 use Prim.Native.Nat.{_-_, _≤_, _<_, min}
@@ -12,8 +12,8 @@ use borrow.Author.Needs.{needs}
 use Rattle.rules.specs.Names.{max-stations}
 use Rattle.rules.specs.Records.{pick-at}
 use Rattle.laws.proofs.Filled.{filled, filled-none, filled-more}
-use Rattle.starts.proofs.first_priorities.Statement.{statement}
-use Rattle.starts.proofs.first_priorities.Tie as tie
+use Rattle.outset.proofs.first_priorities.Statement.{statement}
+use Rattle.outset.proofs.first_priorities.Tie as tie
 
 abbrev Inv-loop : tie.InvT-loop
 Inv-loop log n count priorities₀ j₀ priorities j =
