@@ -14,8 +14,8 @@ use Rattle.rules.specs.Shape.{Stand, initial, stride, is-wrong, wrong-at, well-
 use Rattle.rules.specs.Check.{kinds, wrong-length, field-place, depth-place, check}
 use Rattle.laws.proofs.Choice.{by-test, neither}
 use Rattle.shape.specs.declared.Shape.the-variants.{Whole, Broken}
-use Rattle.shape.specs.Reading.{shape-of, file-shape}
-use Rattle.shape.proofs.Kind.{length-kinds}
+use Rattle.shape.specs.File.{shape-of, file-shape}
+use Rattle.deep.proofs.Kind.{length-kinds}
 use Rattle.sequence.specs.Answer.{answer, wrong-count}
 
 -- a file that is not well shaped, and its place

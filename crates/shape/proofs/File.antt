@@ -11,12 +11,13 @@ use Rattle.rules.specs.Names.{STATION, SET}
 use Rattle.rules.specs.Records.{record-count}
 use Rattle.rules.specs.Shape.{Stand, initial, wrong, stride, is-wrong, walked, wrong-at, well-shaped}
 use Rattle.rules.specs.Check.{kinds}
-use Rattle.shape.specs.declared.Read.{Read}
+use Rattle.deep.specs.declared.Read.{Read}
 use Rattle.shape.specs.declared.Shape.{Shape}
 use Rattle.shape.specs.declared.Shape.the-variants.{Whole, Broken}
 use Rattle.parts.specs.Strides.{opened}
-use Rattle.shape.specs.Reading.{reading, shape-of}
-use Rattle.shape.proofs.Kind.{length-kinds, kinds-from, kinds-part, from, length-part}
+use Rattle.deep.specs.Reading.{reading}
+use Rattle.shape.specs.File.{shape-of}
+use Rattle.deep.proofs.Kind.{length-kinds, kinds-from, kinds-part, from, length-part}
 use Rattle.shape.proofs.Walk.{stand, judged, judged-wrong, judged-more, onward, shaped, walks}
 
 -- the file's shape is found from a place on, in the initial part

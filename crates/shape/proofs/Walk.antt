@@ -16,12 +16,12 @@ use Rattle.parts.specs.declared.Part.{Part}
 use Rattle.parts.specs.declared.Stride.{Stride}
 use Rattle.parts.specs.declared.Stride.the-variants.{On, Into, Out, Off}
 use Rattle.laws.proofs.Shapes.{wrong-stays}
-use Rattle.shape.specs.declared.Read.{Read}
-use Rattle.shape.specs.declared.Read.the-variants.{Closed, Wrong, Short}
+use Rattle.deep.specs.declared.Read.{Read}
+use Rattle.deep.specs.declared.Read.the-variants.{Closed, Wrong, Short}
 use Rattle.shape.specs.declared.Shape.{Shape}
 use Rattle.shape.specs.declared.Shape.the-variants.{Whole, Broken}
 use Rattle.parts.specs.Strides.{grown, closed, stride-of}
-use Rattle.shape.specs.Reading.{shift, carried, reading}
+use Rattle.deep.specs.Reading.{shift, carried, reading}
 
 -- the rules' part, and where the rules' walk stands
 abbrev as-part : Part → OpenPart

@@ -7,20 +7,12 @@ ghost use lib.ListN.{length};
 ghost use Rattle.rules.specs.Names.{STATION, max-records};
 ghost use Rattle.rules.specs.Check.{kinds};
 ghost use Rattle.parts.specs.Strides.{opened};
-ghost use Rattle.shape.specs.Reading.{reading, shape-of, file-shape};
+ghost use Rattle.deep.specs.Reading.{reading};
+ghost use Rattle.shape.specs.File.{shape-of, file-shape};
+use deep::Read;
 use parts::Part;
 use parts::Stride;
 use record::Record;
-
-// What reading a part finds.
-pub enum Read {
-    // The record at this place closes the part.
-    Closed(usize),
-    // The record at this place is the first after which nothing is well shaped.
-    Wrong(usize),
-    // The records ran out: true where nothing but the part itself is open, and it has a statement.
-    Short(bool),
-}
 
 // The shape of a file.
 pub enum Shape {
@@ -38,7 +30,7 @@ fn read_part(s: &[u8], part: Part, depth: usize) -> Read
     ensures { λ r. ⌜ r ≡ reading part [] (kinds (now (s .entry))) ⌝ }
 {
     if depth == 0 {
-        return read_deep(s, part);
+        return deep::reading(s, part);
     }
     let mut part = part;
     let mut at: usize = 0;
@@ -70,47 +62,6 @@ fn read_part(s: &[u8], part: Part, depth: usize) -> Read
         }
     }
     Read::Short(part.begun)
-}
-
-// The same with no calls, for a part that lies deeper than an accepted file has: what closes each part that is open around it, and whether
-// that part stands in a body, are kept in two rows, so that no file takes more stack than these.
-fn read_deep(s: &[u8], part: Part) -> Read
-    requires { ⌜ length (now s) ≤ 8 * max-records ⌝ }
-    ensures { λ r. ⌜ r ≡ reading part [] (kinds (now (s .entry))) ⌝ }
-{
-    let mut closes = [0u8; Record::MAX_RECORDS];
-    let mut bodies = [false; Record::MAX_RECORDS];
-    let mut open: usize = 0;
-    let mut part = part;
-    let mut place: usize = 0;
-    while place < s.len() / 8 {
-        let next = place + 1;
-        match part.stride(s[8 * place]) {
-            Stride::On(same) => {
-                part = same;
-                place = next;
-            }
-            Stride::Into(inner) => {
-                closes[open] = part.close;
-                bodies[open] = part.body;
-                open += 1;
-                part = inner;
-                place = next;
-            }
-            Stride::Out => {
-                if open == 0 {
-                    return Read::Closed(place);
-                }
-                open -= 1;
-                part = Part::opened(closes[open], bodies[open]).grown();
-                place = next;
-            }
-            Stride::Off => {
-                return Read::Wrong(place);
-            }
-        }
-    }
-    Read::Short((open == 0) & part.begun)
 }
 
 // The shape of a file. One of more than 1,024 records is not read, and counts as broken at its first.

@@ -10,7 +10,7 @@ use Rattle.rules.specs.Records.{record-count}
 use Rattle.rules.specs.Check.{kinds, wrong-length, field-place}
 use Rattle.shape.specs.declared.Shape.{Shape}
 use Rattle.shape.specs.declared.Shape.the-variants.{Whole}
-use Rattle.shape.specs.Reading.{shape-of}
+use Rattle.shape.specs.File.{shape-of}
 use Rattle.sequence.specs.Answer.{wrong-count}
 use Rattle.sequence.proofs.Tests.{few, shape-read, shape-within, length-refuses, field-refuses, count-refuses, shape-refuses, depth-refuses, accepts}
 use Rattle.sequence.proofs.check.Statement.{statement}

@@ -2,22 +2,24 @@
 -- slice's records find is found from the place on, in the part as it stands there. Assumes nothing.
 use mathlib.Core.Path.{_≡_, refl, sym}
 use mathlib.Core.List.{List, []}
-use Prim.Native.Nat.{ℕ, _+_, _-_, _≤_, _<_}
+use Prim.Native.Nat.{ℕ, _+_, _-_, _*_, _≤_, _<_}
 use native.Mathlib.Omega.{arith}
 use lib.ListN.{length}
 use borrow.Fn.Kinds.{In}
 use borrow.Fn.PlainCycle.{Measures, is, falls, and}
 use borrow.Author.Needs.{needs}
+use borrow.Author.Tests.{le-leb}
+use Rattle.rules.specs.Names.{max-records}
 use Rattle.rules.specs.Records.{record-count}
 use Rattle.rules.specs.Check.{kinds}
-use Rattle.shape.specs.declared.Read.{Read}
-use Rattle.shape.specs.Reading.{reading}
-use Rattle.shape.proofs.Nested.{shift-none, Within}
-use Rattle.shape.proofs.Turn.{Found, within-part, turn-end, turn-on, turn-out, turn-off, turn-closed, turn-wrong, turn-short}
+use Rattle.deep.specs.declared.Read.{Read}
+use Rattle.deep.specs.Reading.{reading}
+use Rattle.deep.proofs.Nested.{shift-none, Within}
+use Rattle.deep.proofs.Turn.{Found, within-part, turn-end, turn-on, turn-out, turn-off, turn-closed, turn-wrong, turn-short}
 use Rattle.shape.proofs.read_part.Reads as read-part
 use Rattle.shape.proofs.read_part.Kinds as signature
 use Rattle.shape.proofs.+read_part.Lts-read_part as lts
-use Rattle.shape.proofs.read_deep.Reads as read-deep-reads
+use Rattle.deep.proofs.reading.Reads as reading-reads
 use Rattle.parts.proofs.Part.grown.Reads as grown-reads
 use Rattle.parts.proofs.Part.stride.Reads as stride-reads
 use Rattle.shape.proofs.+read_part.{statement}
@@ -37,8 +39,8 @@ below t = and 1 signature.ps (falls 1 signature.ps _<_ μ t) read-part.Pre
 -- what the callees ask and give
 abbrev calls : ℕ → lts.Claims
 calls t = (
-  read-deep-reads.Asked,
-  read-deep-reads.Learnt,
+  reading-reads.Asked,
+  reading-reads.Learnt,
   stride-reads.Asked,
   stride-reads.Learnt,
   below t,
@@ -75,11 +77,13 @@ place-within : (t : ℕ) (r : Nested t) (v : Read) → r .read-part .result ≡ 
 place-within t r v is =
     within-part (slice t (strode t r)) _ _ _ (strode t r .before .before .loop-test .taken) (r .read-part .ensures) v is
 
-read-deep-requires : (t : ℕ) → lts.Need-read-deep-requires (calls t) (entry t) read-part.Post Inv-loop μ-loop
-read-deep-requires t c κs = search needs
+reading-requires : (t : ℕ) → lts.Need-reading-requires (calls t) (entry t) read-part.Post Inv-loop μ-loop
+reading-requires t c κs = search needs
 
 returns : (t : ℕ) → lts.Need-returns (calls t) (entry t) read-part.Post Inv-loop μ-loop
-returns t c = c .read-deep .ensures
+returns t c =
+    let deep = c .before in
+    rw (le-leb (length (deep .before .before .args .s .now)) (8 * max-records) (deep .before .before .pre .1)) at (c .reading .ensures)
 
 loop-holds : (t : ℕ) → lts.Need-loop-holds (calls t) (entry t) read-part.Post Inv-loop μ-loop
 loop-holds t c = (omega arith, shift-none _)
@@ -213,7 +217,7 @@ pub +read-part-spec : {M : Type 1} → statement M
     read-part.Post
     Inv-loop
     μ-loop
-    (read-deep-requires t)
+    (reading-requires t)
     (returns t)
     (loop-holds t)
     (add-next t)

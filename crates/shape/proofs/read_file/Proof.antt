@@ -8,12 +8,12 @@ use native.Mathlib.Omega.{arith}
 use borrow.Author.Needs.{needs}
 use Rattle.rules.specs.Records.{record-count}
 use Rattle.rules.specs.Check.{kinds}
-use Rattle.shape.specs.declared.Read.{Read}
-use Rattle.shape.specs.declared.Read.the-variants.{Short}
+use Rattle.deep.specs.declared.Read.{Read}
+use Rattle.deep.specs.declared.Read.the-variants.{Short}
 use Rattle.shape.specs.declared.Shape.the-variants.{Broken}
-use Rattle.shape.specs.Reading.{shape-of}
-use Rattle.shape.proofs.Nested.{Within}
-use Rattle.shape.proofs.Turn.{within-part}
+use Rattle.shape.specs.File.{shape-of}
+use Rattle.deep.proofs.Nested.{Within}
+use Rattle.deep.proofs.Turn.{within-part}
 use Rattle.shape.proofs.Walk.{onward, shaped}
 use Rattle.shape.proofs.File.{Initial, initial-start, initial-end, initial-on, initial-off, initial-station}
 use Rattle.shape.proofs.read_file.Statement.{statement}

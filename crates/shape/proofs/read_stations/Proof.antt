@@ -4,7 +4,7 @@ use mathlib.Core.List.{[]}
 use borrow.Author.Needs.{needs}
 use Rattle.rules.specs.Check.{kinds}
 use Rattle.parts.specs.declared.Part.{Part}
-use Rattle.shape.specs.Reading.{reading}
+use Rattle.deep.specs.Reading.{reading}
 use Rattle.shape.proofs.read_stations.Statement.{statement}
 use Rattle.shape.proofs.read_stations.Tie as tie
 

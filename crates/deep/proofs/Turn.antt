@@ -12,12 +12,12 @@ use Rattle.rules.specs.Check.{kinds}
 use Rattle.parts.specs.declared.Part.{Part}
 use Rattle.parts.specs.declared.Stride.{Stride}
 use Rattle.parts.specs.declared.Stride.the-variants.{On, Into, Out, Off}
-use Rattle.shape.specs.declared.Read.{Read}
-use Rattle.shape.specs.declared.Read.the-variants.{Closed, Wrong, Short}
+use Rattle.deep.specs.declared.Read.{Read}
+use Rattle.deep.specs.declared.Read.the-variants.{Closed, Wrong, Short}
 use Rattle.parts.specs.Strides.{grown, stride-of}
-use Rattle.shape.specs.Reading.{shift, finished-part, carried, reading}
-use Rattle.shape.proofs.Kind.{length-kinds, kinds-from, from, kinds-part, length-part}
-use Rattle.shape.proofs.Nested.{shift-shift, resumed, nested, Within, within}
+use Rattle.deep.specs.Reading.{shift, finished-part, carried, reading}
+use Rattle.deep.proofs.Kind.{length-kinds, kinds-from, from, kinds-part, length-part}
+use Rattle.deep.proofs.Nested.{shift-shift, resumed, nested, Within, within}
 
 -- all that is found is found from a place on, in a part with these open around it
 abbrev pub FoundIn : List ℕ → Read → Part → List Part → ℕ → Type 0

@@ -12,7 +12,7 @@ use lib.Seq.{getD-set-same, getD-set-other}
 use borrow.Author.Tests.{ne-eqb}
 use Rattle.parts.specs.declared.Part.{Part}
 use Rattle.parts.specs.Strides.{opened, grown}
-use Rattle.shape.specs.Reading.{finished-part}
+use Rattle.deep.specs.Reading.{finished-part}
 
 unfoldable pub around : ℕ → List ℕ → List Bool → List Part
 around zero closes bodies = []

@@ -8,10 +8,10 @@ use lib.ListN.{length, drop}
 use Rattle.parts.specs.declared.Part.{Part}
 use Rattle.parts.specs.declared.Stride.{Stride}
 use Rattle.parts.specs.declared.Stride.the-variants.{On, Into, Out, Off}
-use Rattle.shape.specs.declared.Read.{Read}
-use Rattle.shape.specs.declared.Read.the-variants.{Closed, Wrong, Short}
+use Rattle.deep.specs.declared.Read.{Read}
+use Rattle.deep.specs.declared.Read.the-variants.{Closed, Wrong, Short}
 use Rattle.parts.specs.Strides.{grown, stride-of}
-use Rattle.shape.specs.Reading.{shift, finished-part, carried, reading}
+use Rattle.deep.specs.Reading.{shift, finished-part, carried, reading}
 
 pub shift-none : (r : Read) → r ≡ shift 0 r
 shift-none (Closed place) = ap Closed (omega arith)

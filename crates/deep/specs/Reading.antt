@@ -6,16 +6,13 @@ use lib.Dec.{leb}
 use lib.ListN.{length}
 use Rattle.rules.specs.Words.{if_then_else_}
 use Rattle.rules.specs.Names.{max-records}
-use Rattle.rules.specs.Shape.{well-shaped, shape-place}
 use Rattle.rules.specs.Check.{kinds}
 use Rattle.parts.specs.declared.Part.{Part}
 use Rattle.parts.specs.declared.Stride.{Stride}
 use Rattle.parts.specs.declared.Stride.the-variants.{On, Into, Out, Off}
 use Rattle.parts.specs.Strides.{grown, stride-of}
-use Rattle.shape.specs.declared.Read.{Read}
-use Rattle.shape.specs.declared.Read.the-variants.{Closed, Wrong, Short}
-use Rattle.shape.specs.declared.Shape.{Shape}
-use Rattle.shape.specs.declared.Shape.the-variants.{Whole, Broken}
+use Rattle.deep.specs.declared.Read.{Read}
+use Rattle.deep.specs.declared.Read.the-variants.{Closed, Wrong, Short}
 
 -- a place counted from so many records further back
 abbrev pub shift : ℕ → Read → Read
@@ -41,10 +38,6 @@ unfoldable pub reading : Part → List Part → List ℕ → Read
 reading part parts [] = Short (finished-part part parts)
 reading part parts (kind ∷ kinds) = carried (λ p ps. reading p ps kinds) (stride-of part kind) part parts
 
--- the shape of a file, by the rules
-abbrev pub shape-of : List ℕ → Shape
-shape-of kinds = if well-shaped kinds then Whole else Broken (shape-place kinds)
-
--- the shape of a file; one of more than 1,024 records is not read
-abbrev pub file-shape : List ℕ → Shape
-file-shape file = if leb (length file) (8 * max-records) then shape-of (kinds file) else Broken 0
+-- the same of the records of a slice; one of more than 1,024 records is not read
+abbrev pub few-reading : Part → List ℕ → Read
+few-reading part s = if leb (length s) (8 * max-records) then reading part [] (kinds s) else Short false

@@ -1,4 +1,4 @@
--- `shape::read_deep` meets its contract. The loop's invariant: what the slice's records find is found from the place on, in the
+-- `deep::read_few` meets its contract. The loop's invariant: what the slice's records find is found from the place on, in the
 -- part as it stands there, with the parts of the rows open around it. Assumes nothing.
 use mathlib.Core.Path.{_≡_, sym, ap, _∙_}
 use mathlib.Core.Bool.{false}
@@ -10,13 +10,13 @@ use lib.ListN.{length, length-set, length-replicate}
 use Rattle.rules.specs.Names.{max-records}
 use Rattle.rules.specs.Records.{record-count}
 use Rattle.rules.specs.Check.{kinds}
-use Rattle.shape.specs.declared.Read.the-variants.{Short}
-use Rattle.shape.specs.Reading.{reading}
-use Rattle.shape.proofs.Nested.{shift-none}
-use Rattle.shape.proofs.Turn.{FoundIn, turn-end, turn-on, turn-open, turn-out, turn-close, turn-off}
-use Rattle.shape.proofs.Around.{around, around-more, around-fewer, around-finished}
-use Rattle.shape.proofs.read_deep.Statement.{statement}
-use Rattle.shape.proofs.read_deep.Tie as tie
+use Rattle.deep.specs.declared.Read.the-variants.{Short}
+use Rattle.deep.specs.Reading.{reading}
+use Rattle.deep.proofs.Nested.{shift-none}
+use Rattle.deep.proofs.Turn.{FoundIn, turn-end, turn-on, turn-open, turn-out, turn-close, turn-off}
+use Rattle.deep.proofs.Around.{around, around-more, around-fewer, around-finished}
+use Rattle.deep.proofs.read_few.Statement.{statement}
+use Rattle.deep.proofs.read_few.Tie as tie
 
 abbrev Inv-loop : tie.InvT-loop
 Inv-loop s closes₀ bodies₀ open₀ part₀ place₀ closes bodies «open» part place =
@@ -152,8 +152,8 @@ returns-3 c =
     sym (turn-end _ _ _ _ _ (loop .inv .4) (c .before .loop-test .left)
     ∙ ap Short (around-finished (loop .part) (loop .«open») (loop .closes) (loop .bodies)))
 
-pub read-deep-spec : {M : Type 1} → statement M
-read-deep-spec =
+pub read-few-spec : {M : Type 1} → statement M
+read-few-spec =
     tie.close
     (tie.spec
     Inv-loop

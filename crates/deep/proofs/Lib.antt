@@ -1,0 +1,4 @@
+pub mod Kind
+pub mod Nested
+pub mod Turn
+pub mod Around
