@@ -1,4 +1,3 @@
-pub mod Kind
 pub mod Nested
 pub mod Turn
 pub mod Around

@@ -16,7 +16,7 @@ use Rattle.deep.specs.declared.Read.{Read}
 use Rattle.deep.specs.declared.Read.the-variants.{Closed, Wrong, Short}
 use Rattle.parts.specs.Strides.{grown, stride-of}
 use Rattle.deep.specs.Reading.{shift, finished-part, carried, reading}
-use Rattle.deep.proofs.Kind.{length-kinds, kinds-from, from, kinds-part, length-part}
+use Rattle.laws.proofs.Kind.{length-kinds, kinds-from, from, kinds-part, length-part}
 use Rattle.deep.proofs.Nested.{shift-shift, resumed, nested, Within, within}
 
 -- all that is found is found from a place on, in a part with these open around it

@@ -13,3 +13,4 @@ pub mod Bodies
 pub mod Sound
 pub mod Passed
 pub mod Answers
+pub mod Kind

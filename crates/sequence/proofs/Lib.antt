@@ -1,4 +1,3 @@
-pub mod Open
 pub mod Stations
 pub mod Tests
 pub mod Only

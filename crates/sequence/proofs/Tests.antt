@@ -15,7 +15,7 @@ use Rattle.rules.specs.Check.{kinds, wrong-length, field-place, depth-place, ch
 use Rattle.laws.proofs.Choice.{by-test, neither}
 use Rattle.shape.specs.declared.Shape.the-variants.{Whole, Broken}
 use Rattle.shape.specs.File.{shape-of, file-shape}
-use Rattle.deep.proofs.Kind.{length-kinds}
+use Rattle.laws.proofs.Kind.{length-kinds}
 use Rattle.sequence.specs.Answer.{answer, wrong-count}
 
 -- a file that is not well shaped, and its place

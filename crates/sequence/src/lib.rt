@@ -1,14 +1,11 @@
 // Checks a written sequence: five tests in their order, each over the whole file.
-// The crate `shape` reads the parts of the file, `depth` counts what is open.
+// The crate `shape` reads the parts of the file, `nesting` counts what is open.
 ghost use mathlib.Core.Path.{_≡_};
 ghost use Rattle.rules.specs.Check.{wrong-length, field-place, station-count};
 ghost use Rattle.sequence.specs.Answer.{answer, as-answer, wrong-count};
 ghost use Rattle.sequence.specs.Promises.{CheckPromise};
-use depth::depth_place;
 use record::Record;
 use shape::Shape;
-
-mod depth;
 
 // What checking answers: 0 or the number of the refusal, and the place of a record.
 #[repr(C)]
@@ -43,7 +40,7 @@ pub fn check(file: &[u8]) -> Checked
     if let Shape::Broken(place) = shape::of(file) {
         return Checked::new(Record::SHAPE, place as u16);
     }
-    let deep = depth_place(file);
+    let deep = nesting::depth_place(file);
     if deep < count {
         return Checked::new(Record::DEPTH, deep as u16);
     }

@@ -17,7 +17,7 @@ use Rattle.shape.specs.declared.Shape.the-variants.{Whole, Broken}
 use Rattle.parts.specs.Strides.{opened}
 use Rattle.deep.specs.Reading.{reading}
 use Rattle.shape.specs.File.{shape-of}
-use Rattle.deep.proofs.Kind.{length-kinds, kinds-from, kinds-part, from, length-part}
+use Rattle.laws.proofs.Kind.{length-kinds, kinds-from, kinds-part, from, length-part}
 use Rattle.shape.proofs.Walk.{stand, judged, judged-wrong, judged-more, onward, shaped, walks}
 
 -- the file's shape is found from a place on, in the initial part

@@ -1,11 +1,11 @@
--- `sequence::depth::depth_after` meets its contract: what `opens` and `closes` answer picks the case. Assumes nothing.
+-- `nesting::depth_after` meets its contract: what `opens` and `closes` answer picks the case. Assumes nothing.
 use mathlib.Core.Path.{sym, _∙_}
 use mathlib.Core.Logic.{⊎-elim}
 use native.Mathlib.Omega.{arith}
 use borrow.Author.Needs.{needs}
 use borrow.Author.Tests.{ltb-false}
-use Rattle.sequence.proofs.depth.depth_after.Statement.{statement}
-use Rattle.sequence.proofs.depth.depth_after.Tie as tie
+use Rattle.nesting.proofs.depth_after.Statement.{statement}
+use Rattle.nesting.proofs.depth_after.Tie as tie
 
 opens-requires : tie.Need-opens-requires
 opens-requires c κs = search needs

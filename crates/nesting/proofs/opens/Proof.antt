@@ -1,10 +1,10 @@
--- `sequence::depth::opens` meets its contract: the arms say that the kind is one of those that it names, or none. Assumes nothing.
+-- `nesting::opens` meets its contract: the arms say that the kind is one of those that it names, or none. Assumes nothing.
 use mathlib.Core.Path.{sym}
 use mathlib.Core.List.{[], _∷_}
 use Rattle.rules.specs.Names.{IF, WHILE, AWAIT}
 use Rattle.laws.proofs.Among.{among-yes, among-no}
-use Rattle.sequence.proofs.depth.opens.Statement.{statement}
-use Rattle.sequence.proofs.depth.opens.Tie as tie
+use Rattle.nesting.proofs.opens.Statement.{statement}
+use Rattle.nesting.proofs.opens.Tie as tie
 
 returns : tie.Need-returns
 returns c = sym (among-yes _ (IF ∷ WHILE ∷ AWAIT ∷ []) (c .match .keys1))

@@ -1,4 +1,4 @@
--- `sequence::depth::depth_place` meets its contract. The loop's invariant: no more is open than may be, and the place is found from
+-- `nesting::depth_place` meets its contract. The loop's invariant: no more is open than may be, and the place is found from
 -- here on. Assumes nothing.
 use mathlib.Core.Path.{_≡_, sym, _∙_}
 use mathlib.Core.Bool.{false, _&&_}
@@ -12,9 +12,9 @@ use Rattle.rules.specs.Names.{max-depth}
 use Rattle.rules.specs.Records.{record-count}
 use Rattle.rules.specs.Shape.{opens}
 use Rattle.laws.proofs.Choice.{both}
-use Rattle.sequence.proofs.Open.{Deep, deep-start, deep-end, deep-here, deep-on, deep-within}
-use Rattle.sequence.proofs.depth.depth_place.Statement.{statement}
-use Rattle.sequence.proofs.depth.depth_place.Tie as tie
+use Rattle.nesting.proofs.Open.{Deep, deep-start, deep-end, deep-here, deep-on, deep-within}
+use Rattle.nesting.proofs.depth_place.Statement.{statement}
+use Rattle.nesting.proofs.depth_place.Tie as tie
 
 abbrev Inv-loop : tie.InvT-loop
 Inv-loop file depth₀ at₀ depth at = (at ≤ record-count file) × (depth ≤ max-depth) × Deep file depth at

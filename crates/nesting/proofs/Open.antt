@@ -13,7 +13,7 @@ use Rattle.rules.specs.Records.{record-count}
 use Rattle.rules.specs.Shape.{opens, depth-after, too-deep-at}
 use Rattle.rules.specs.Check.{kinds, depth-place}
 use Rattle.laws.proofs.Choice.{by-test}
-use Rattle.deep.proofs.Kind.{length-kinds, kinds-from}
+use Rattle.laws.proofs.Kind.{length-kinds, kinds-from}
 
 -- the place is found from a place on, with so many open there
 abbrev pub Deep : List ℕ → ℕ → ℕ → Type 0

@@ -1,10 +1,10 @@
--- `sequence::depth::closes` meets its contract: the arms say that the kind is one of those that it names, or none. Assumes nothing.
+-- `nesting::closes` meets its contract: the arms say that the kind is one of those that it names, or none. Assumes nothing.
 use mathlib.Core.Path.{sym}
 use mathlib.Core.List.{[], _∷_}
 use Rattle.rules.specs.Names.{FI, OD, END}
 use Rattle.laws.proofs.Among.{among-yes, among-no}
-use Rattle.sequence.proofs.depth.closes.Statement.{statement}
-use Rattle.sequence.proofs.depth.closes.Tie as tie
+use Rattle.nesting.proofs.closes.Statement.{statement}
+use Rattle.nesting.proofs.closes.Tie as tie
 
 returns : tie.Need-returns
 returns c = sym (among-yes _ (FI ∷ OD ∷ END ∷ []) (c .match .keys1))
