@@ -7,8 +7,9 @@ use Rattle.rules.specs.Words.{if_then_else_, among, tally, written}
 use Rattle.rules.specs.Names.{SKIP, SET, IF, WHILE, AWAIT, INIT}
 use Rattle.rules.specs.Records.{Record, ListRecord, records, record-at, record-count, list-record-bytes}
 use Rattle.rules.specs.Build.{bare, listed}
+use Rattle.entries.specs.Entries.{end-of-file}
 use Rattle.layout.specs.declared.Laying.{Laying}
-use Rattle.layout.specs.Layout.{before-last, after-kind, lays, record-for, end-of-file}
+use Rattle.layout.specs.Layout.{before-last, after-kind, lays, record-for}
 use Rattle.loops.specs.Loops.{seek-records, nothing-sought}
 
 -- a list record put at a place, where there is room for it

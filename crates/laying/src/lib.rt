@@ -17,7 +17,7 @@ fn lay_record(r: Record, laying: Laying, loops: &[u16], list: &mut [u8]) -> Layi
     let kind = r.kind;
     let after = laying.take(kind, loops);
     if laying.lays(kind) {
-        let place = layout::less(laying.place);
+        let place = entries::less(laying.place);
         put::put(list, place, laying.record_for(r));
     }
     after
@@ -45,8 +45,8 @@ fn lay_inits(stations: u8, starts: [u16; 8], place: u16, list: &mut [u8])
     let mut p = place;
     while 0 < j {
         j -= 1;
-        p = layout::less(p);
-        put::put(list, p, layout::init(j, starts));
+        p = entries::less(p);
+        put::put(list, p, entries::init(j, starts));
     }
 }
 
@@ -54,10 +54,10 @@ fn lay_inits(stations: u8, starts: [u16; 8], place: u16, list: &mut [u8])
 pub fn lay_out(file: &[u8], total: u16, stations: u8, list: &mut [u8])
     ensures { λ x. ⌜ now (list .exit) ≡ laid-out (now (file .entry)) total stations (now (list .entry)) ⌝ }
 {
-    let found = loops::find(file, layout::less(stations as u16));
+    let found = loops::find(file, entries::less(stations as u16));
     let places = found.places;
     let begin = Laying::begin(total, stations, found.found);
-    let last = lay_record(layout::end_of_file(), begin, &places, list);
+    let last = lay_record(entries::end_of_file(), begin, &places, list);
     let x = lay_records(file, last, &places, list);
     let starts = x.starts;
     lay_inits(stations, starts, x.place, list)
@@ -72,7 +72,7 @@ pub fn step_count(file: &[u8]) -> usize
     let mut i: usize = 0;
     while i < count {
         let r = Record::at(file, i);
-        if layout::is_step(r.kind) {
+        if entries::is_step(r.kind) {
             n += 1;
         }
         i += 1;

@@ -126,7 +126,3 @@ record-for r s =
     else if eqb (r .kind) WHILE then listed r (s .station) (s .inside) (s .next) (getD (s .after) (s .depth) 0)
     else if eqb (r .kind) AWAIT then listed r (s .station) 0 (s .place) (getD (s .after) (s .depth) 0)
     else listed r (s .station) (s .inside) (s .next) 0
-
--- the end of the file is a STATION that opens nothing
-abbrev pub end-of-file : Record
-end-of-file = bare STATION 0

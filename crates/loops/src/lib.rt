@@ -6,8 +6,8 @@ ghost use Rattle.rules.specs.Words.{among};
 ghost use Rattle.rules.specs.Names.{STATION, SKIP, SET, IF, AWAIT, WHILE, OD};
 ghost use Rattle.rules.specs.Records.{records};
 ghost use Rattle.loops.specs.Loops.{seeking, more as moreOf, left, sought, seek-records, nothing-sought};
-use layout::entry;
-use layout::one_less;
+use entries::entry;
+use entries::one_less;
 use record::Record;
 
 // Places for the loops that are open, from 1 on: at most sixteen are.

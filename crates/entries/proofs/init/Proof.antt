@@ -1,8 +1,8 @@
--- `layout::init` meets its contract: `entry` gives the start.
+-- `entries::init` meets its contract: `entry` gives the start.
 -- Assumes nothing.
 use borrow.Author.Needs.{needs}
-use Rattle.layout.proofs.init.Statement.{statement}
-use Rattle.layout.proofs.init.Tie as tie
+use Rattle.entries.proofs.init.Statement.{statement}
+use Rattle.entries.proofs.init.Tie as tie
 
 slice-aggregate-entry : tie.Need-slice-aggregate-entry
 slice-aggregate-entry c = search needs

@@ -1,4 +1,4 @@
--- `layout::is_step` meets its contract: 2 to 4 are a run of the kinds listed, 7 and 9 are listed, and any other kind
+-- `entries::is_step` meets its contract: 2 to 4 are a run of the kinds listed, 7 and 9 are listed, and any other kind
 -- differs from each.
 -- Assumes nothing.
 use mathlib.Core.Path.{refl}
@@ -11,8 +11,8 @@ use borrow.Author.Tests.{ne-eqb}
 use Rattle.rules.specs.Words.{values}
 use Rattle.rules.specs.Names.{SKIP, SET, IF, WHILE, AWAIT}
 use Rattle.laws.proofs.Among.{in-run}
-use Rattle.layout.proofs.is_step.Statement.{statement}
-use Rattle.layout.proofs.is_step.Tie as tie
+use Rattle.entries.proofs.is_step.Statement.{statement}
+use Rattle.entries.proofs.is_step.Tie as tie
 
 returns : tie.Need-returns
 unfolding values

@@ -1,8 +1,8 @@
--- `layout::stop` meets its contract: one less than 0 is 0.
+-- `entries::stop` meets its contract: one less than 0 is 0.
 -- Assumes nothing.
 use borrow.Author.Needs.{needs}
-use Rattle.layout.proofs.stop.Statement.{statement}
-use Rattle.layout.proofs.stop.Tie as tie
+use Rattle.entries.proofs.stop.Statement.{statement}
+use Rattle.entries.proofs.stop.Tie as tie
 
 listed-requires : tie.Need-listed-requires
 listed-requires c κs = search needs

@@ -1,11 +1,11 @@
--- `layout::entry` meets its contract: where the test fails, the entry lies past the last.
+-- `entries::entry` meets its contract: where the test fails, the entry lies past the last.
 -- Assumes nothing.
 use mathlib.Core.Path.{sym}
 use native.Mathlib.Omega.{arith}
 use lib.ListN.{List·getD-eq-default}
 use borrow.Author.Needs.{needs}
-use Rattle.layout.proofs.entry.Statement.{statement}
-use Rattle.layout.proofs.entry.Tie as tie
+use Rattle.entries.proofs.entry.Statement.{statement}
+use Rattle.entries.proofs.entry.Tie as tie
 
 mul-result : tie.Need-mul-result
 mul-result c = search needs
