@@ -5,10 +5,11 @@ use mathlib.Core.Bool.{Bool, false, _&&_, _||_}
 use mathlib.Core.List.{List, [], _∷_}
 use lib.Dec.{eqb, leb}
 use lib.ListN.{length, getD}
-use Rattle.rules.specs.Words.{if_then_else_, among, values}
-use Rattle.rules.specs.Names.{SET, IF, WHILE, AWAIT, variables, max-list}
+use Rattle.rules.specs.Words.{if_then_else_, values}
+use Rattle.rules.specs.Names.{AWAIT, variables, max-list}
 use Rattle.rules.specs.Records.{Record, ListRecord, list-record-at, list-count}
 use Rattle.rules.specs.Lights.{reads, writes, led-to, some-of}
+use Rattle.touching.specs.Touching.{added}
 use Rattle.touches.specs.declared.Touched.{Touched}
 
 -- how many records are searched for a body: the list's, or its first 1,032
@@ -32,21 +33,6 @@ touched-by list e =
       reads = values (λ v. touched (reads v) list e) variables;
       writes = values (λ v. touched (writes v) list e) variables;
     }
-
--- whether a record reads the variable b, and the variable k
-abbrev pub reads-b : Record → Bool
-reads-b r =
-    if eqb (r .kind) SET then among (r .op) (1 ∷ 2 ∷ 3 ∷ 4 ∷ 5 ∷ [])
-    else among (r .kind) (IF ∷ WHILE ∷ AWAIT ∷ [])
-
-abbrev pub reads-k : Record → Bool
-reads-k r =
-    if eqb (r .kind) SET then among (r .op) (4 ∷ 5 ∷ [])
-    else among (r .kind) (IF ∷ WHILE ∷ AWAIT ∷ []) && leb 4 (r .op)
-
--- what was touched, and what passes the test too
-abbrev pub added : List Bool → (ℕ → Bool) → List Bool
-added before test = values (λ v. getD before v false || test v) variables
 
 -- what was touched, and what a record touches too
 unfoldable pub with-record : Touched → Record → Touched

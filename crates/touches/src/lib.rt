@@ -1,16 +1,15 @@
 // Which variables a station's next step touches: what it reads and what it writes, itself and, at an AWAIT, in its body.
 ghost use mathlib.Core.Path.{_≡_};
-ghost use mathlib.Core.Bool.{_&&_};
-ghost use mathlib.Core.List.{[], _∷_};
 ghost use Prim.Native.Nat.{_≤_};
-ghost use lib.Dec.{eqb};
 ghost use lib.ListN.{length};
-ghost use Rattle.rules.specs.Words.{among};
-ghost use Rattle.rules.specs.Names.{IF, WHILE, AWAIT, max-list};
+ghost use Rattle.rules.specs.Names.{max-list};
 ghost use Rattle.record.specs.View.{as-record, as-list-record};
-ghost use Rattle.touches.specs.Touched.{searched, body-within, touched-by, reads-b, reads-k, added, with-record, with-places, Wants};
+ghost use Rattle.touches.specs.Touched.{searched, body-within, touched-by, with-record, with-places, Wants};
 use record::ListRecord;
 use record::Record;
+use touching::added;
+use touching::reads_b;
+use touching::reads_k;
 
 // What is touched: variable v is read, or written, where its place v says so.
 pub struct Touched {
@@ -91,47 +90,4 @@ fn want(wanted: &mut [bool; Record::MAX_LIST], end: usize, count: usize, t: usiz
         }
     }
     end
-}
-
-// What was touched, and variable v too where the test holds. No variable is above 31.
-fn added(before: [bool; 32], test: bool, v: u32) -> [bool; 32]
-    ensures { λ r. ⌜ r ≡ added before (λ i. test && eqb v i) ⌝ }
-{
-    let mut after = before;
-    if test {
-        let place = v as usize;
-        if place < Record::VARIABLES {
-            after[place] = true;
-        }
-    }
-    after
-}
-
-// Whether a record reads the variable b.
-fn reads_b(own: Record) -> bool
-    ensures { λ r. ⌜ r ≡ reads-b (as-record own) ⌝ }
-{
-    let op = own.op;
-    if own.kind == Record::SET {
-        return (op == 1) | (op == 2) | (op == 3) | (op == 4) | (op == 5);
-    }
-    tests(own.kind)
-}
-
-// Whether a record reads the variable k.
-fn reads_k(own: Record) -> bool
-    ensures { λ r. ⌜ r ≡ reads-k (as-record own) ⌝ }
-{
-    let op = own.op;
-    if own.kind == Record::SET {
-        return (op == 4) | (op == 5);
-    }
-    tests(own.kind) & (4 <= op)
-}
-
-// Whether a record of this kind has a condition.
-fn tests(kind: u8) -> bool
-    ensures { λ r. ⌜ r ≡ among kind (IF ∷ WHILE ∷ AWAIT ∷ []) ⌝ }
-{
-    (kind == Record::IF) | (kind == Record::WHILE) | (kind == Record::AWAIT)
 }

@@ -1,10 +1,10 @@
--- `touches::reads_k` meets its contract: the ops 4 and 5 of a SET read k, and so do a condition's from 4 on.
+-- `touching::reads_k` meets its contract: the ops 4 and 5 of a SET read k, and so do a condition's from 4 on.
 -- Assumes nothing.
 use mathlib.Core.Bool.{or-false}
 use borrow.Author.Needs.{needs}
 use borrow.Author.Tests.{eq-eqb, ne-eqb}
-use Rattle.touches.proofs.reads_k.Statement.{statement}
-use Rattle.touches.proofs.reads_k.Tie as tie
+use Rattle.touching.proofs.reads_k.Statement.{statement}
+use Rattle.touching.proofs.reads_k.Tie as tie
 
 returns : tie.Need-returns
 returns c = simp (eq-eqb _ _ (c .if1 .taken), or-false)

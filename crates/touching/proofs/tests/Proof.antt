@@ -1,8 +1,8 @@
--- `touches::tests` meets its contract: the kinds are those of the list, in its order.
+-- `touching::tests` meets its contract: the kinds are those of the list, in its order.
 -- Assumes nothing.
 use mathlib.Core.Bool.{or-assoc, or-false}
-use Rattle.touches.proofs.tests.Statement.{statement}
-use Rattle.touches.proofs.tests.Tie as tie
+use Rattle.touching.proofs.tests.Statement.{statement}
+use Rattle.touching.proofs.tests.Tie as tie
 
 returns : tie.Need-returns
 returns c = simp (or-assoc, or-false)

@@ -1,10 +1,10 @@
--- `touches::reads_b` meets its contract: the ops 1 to 5 of a SET read b, and so does every condition.
+-- `touching::reads_b` meets its contract: the ops 1 to 5 of a SET read b, and so does every condition.
 -- Assumes nothing.
 use mathlib.Core.Bool.{or-assoc, or-false}
 use borrow.Author.Needs.{needs}
 use borrow.Author.Tests.{eq-eqb, ne-eqb}
-use Rattle.touches.proofs.reads_b.Statement.{statement}
-use Rattle.touches.proofs.reads_b.Tie as tie
+use Rattle.touching.proofs.reads_b.Statement.{statement}
+use Rattle.touching.proofs.reads_b.Tie as tie
 
 returns : tie.Need-returns
 returns c = simp (eq-eqb _ _ (c .if1 .taken), or-assoc, or-false)

@@ -1,4 +1,4 @@
--- `touches::added` meets its contract: one variable more, or none where the test fails or no variable has the number.
+-- `touching::added` meets its contract: one variable more, or none where the test fails or no variable has the number.
 -- Assumes nothing.
 use mathlib.Core.Bool.{_&&_, and-false}
 use native.Mathlib.Omega.{arith}
@@ -6,9 +6,9 @@ use borrow.Author.Needs.{needs}
 use borrow.Author.Tests.{ne-eqb}
 use borrow.Kind.Array.{eBool, good-length}
 use lib.Dec.{eqb}
-use Rattle.touches.proofs.Variables.{added-none, added-one}
-use Rattle.touches.proofs.added.Statement.{statement}
-use Rattle.touches.proofs.added.Tie as tie
+use Rattle.touching.proofs.Variables.{added-none, added-one}
+use Rattle.touching.proofs.added.Statement.{statement}
+use Rattle.touching.proofs.added.Tie as tie
 
 array-write-after : tie.Need-array-write-after
 array-write-after c = search needs
