@@ -4,10 +4,11 @@ use mathlib.Core.Bool.{true}
 use mathlib.Core.List.{List, [], _∷_, _++_, append-assoc}
 use Prim.Native.Nat.{ℕ, zero, suc, _+_, _*_, _≤_, _<_}
 use native.Mathlib.Nat.{zero-add, not-suc-le-zero, le-of-suc-le-suc}
+use native.Mathlib.Numerals.{add-one}
 use native.Mathlib.Omega.{arith}
 use borrow.Author.Tests.{eq-eqb, le-leb}
-use lib.ListN.{length, getD, take, drop, length-append, length-take, length-drop, take-append-drop}
-use lib.Seq.{take-at, drop-drop, drop-append-add, getD-at, getD-append-add, ext-getD}
+use lib.ListN.{length, getD, take, drop, set, length-append, length-take, length-drop, take-append-drop}
+use lib.Seq.{sets, sets-eq, take-at, drop-drop, drop-append-add, getD-at, getD-append-add, ext-getD}
 use Rattle.rules.specs.Words.{values, written}
 use Rattle.rules.specs.Records.{Pick, pick-at, pick-bytes}
 use Rattle.rules.specs.List.{stations}
@@ -86,3 +87,12 @@ starts-behind list resets rest b n within =
     (λ j l.
     let e = start-behind 0 resets rest j (omega arith) in
     both (eq-eqb _ j (ap (λ (p : Pick). p .station) e ∙ zero-add j)) (rw (ap (λ (p : Pick). p .reset) e) (le-leb _ b (within j l))))
+
+-- a buffer that is long enough has the bytes set one by one
+pub written-sets : (log : List ℕ) (at : ℕ) (bytes : List ℕ) → at + length bytes ≤ length log → written log at bytes ≡ sets log at bytes
+unfolding written
+written-sets log at bytes room = rw (sets-eq bytes log at room, append-assoc)
+
+-- a record of two bytes
+pub written-record : (log : List ℕ) (at a b : ℕ) → at + 2 ≤ length log → set (set log at a) (at + 1) b ≡ written log at (a ∷ b ∷ [])
+written-record log at a b room = rw (written-sets log at (a ∷ b ∷ []) room, add-one)

@@ -10,8 +10,7 @@ use lib.Seq.{sets, sets-eq, take-suc, length-take-le}
 use Rattle.rules.specs.Words.{values, written}
 use Rattle.rules.specs.Records.{pick-at}
 use Rattle.rules.specs.Start.{start-records}
-use Rattle.laws.proofs.Written.{length-starts, resets-behind}
-use Rattle.logs.proofs.Written.{written-sets}
+use Rattle.laws.proofs.Written.{length-starts, resets-behind, written-sets}
 
 -- bytes after bytes
 sets-append : (log : List ℕ) (at : ℕ) (bytes more : List ℕ) → sets log at (bytes ++ more) ≡ sets (sets log at bytes) (at + length bytes) more

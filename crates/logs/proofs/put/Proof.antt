@@ -5,7 +5,7 @@ use native.Mathlib.Omega.{arith}
 use lib.ListN.{length, length-set}
 use borrow.Author.Needs.{needs}
 use borrow.Author.Tests.{le-leb, lt-leb}
-use Rattle.logs.proofs.Written.{written-record}
+use Rattle.laws.proofs.Written.{written-record}
 use Rattle.logs.proofs.put.Statement.{statement}
 use Rattle.logs.proofs.put.Tie as tie
 
