@@ -57,10 +57,11 @@ module _ {A : Type 0} where
       → set ys j x ≡ changed f (j + 1) xs
   changed-turn f xs ys j x d so-far new = rw (new, so-far, changed-next) (rw add-one (changed-suc f j xs d))
 
-  -- the changes need agree only below n
-  pub changed-same : (f g : ℕ → A → A) (n : ℕ) (xs : List A) → ((i : ℕ) → i < n → (x : A) → f i x ≡ g i x) → changed f n xs ≡ changed g n xs
+  -- the changes need agree only below n, and on what is there
+  pub changed-same : (f g : ℕ → A → A) (n : ℕ) (xs : List A) (d : A) → ((i : ℕ) → i < n → f i (getD xs i d) ≡ g i (getD xs i d))
+      → changed f n xs ≡ changed g n xs
   unfolding changed
-  changed-same f g zero xs same = refl
-  changed-same f g (suc n) [] same = refl
-  changed-same f g (suc n) (x ∷ xs) same =
-      rw (same 0 (omega arith) x, changed-same (λ i. f (suc i)) (λ i. g (suc i)) n xs (λ i l. same (suc i) (omega arith)))
+  changed-same f g zero xs d same = refl
+  changed-same f g (suc n) [] d same = refl
+  changed-same f g (suc n) (x ∷ xs) d same =
+      rw (same 0 (omega arith), changed-same (λ i. f (suc i)) (λ i. g (suc i)) n xs d (λ i l. same (suc i) (omega arith)))

@@ -1,4 +1,3 @@
-pub mod Signed
 pub mod Clauses
 pub mod Charges
 pub mod Picks

@@ -1,7 +1,6 @@
 // A run: its state, and the calls that start it, step it, run it and take a step back, over any list, state and log whatever.
 
 mod begin;
-mod charge;
 mod run;
 mod sound;
 mod step;

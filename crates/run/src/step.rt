@@ -10,7 +10,6 @@ ghost use Rattle.run.specs.View.{as-state, as-picked};
 ghost use Rattle.run.specs.Promises.{StepPromise};
 use crate::Outcome;
 use crate::State;
-use crate::charge::charged;
 use record::ListRecord;
 use record::Record;
 
@@ -104,7 +103,7 @@ impl State {
         State {
             vars: after,
             positions,
-            priorities: charged(priorities, self.n as usize, all, at, reset),
+            priorities: charging::charged(priorities, self.n as usize, all, at, reset),
             n: self.n,
             b: self.b,
             m: self.m + 1,

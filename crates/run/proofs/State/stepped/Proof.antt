@@ -5,7 +5,6 @@ use Rattle.rules.specs.Step as rules
 use Rattle.laws.proofs.Sound.{at-most-eight}
 use Rattle.run.specs.View.{as-state}
 use Rattle.run.proofs.Charges.{charge-known}
-use Rattle.run.proofs.Picks.{above}
 use Rattle.run.proofs.State.stepped.Statement.{statement}
 use Rattle.run.proofs.State.stepped.Tie as tie
 
@@ -37,7 +36,7 @@ cast-charged : tie.Need-cast-charged
 cast-charged c = search needs
 
 charged-requires : tie.Need-charged-requires
-charged-requires c κs = let known = c .before .before .before .before .before .before .before .before .before .pre .0 in (at-most-eight known, above known)
+charged-requires c κs = search needs
 
 add-t26 : tie.Need-add-t26
 add-t26 c = omega (arith, c .before .before .before .before .before .before .before .before .before .before .pre .1)
@@ -55,7 +54,7 @@ returns c =
       after .step-vars .ensures,
       moved .step-position .ensures,
       found .at .ensures,
-      charge-known _ (as-state (a .t1)) (record { station = a .station; reset = a .reset }) (start .pre .2) (at-most-eight (start .pre .0)),
+      charge-known _ (as-state (a .t1)) (record { station = a .station; reset = a .reset }) (start .pre .2) (start .pre .0),
     )
 
 pub stepped-spec : {M : Type 1} → statement M
