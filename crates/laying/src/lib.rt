@@ -16,9 +16,9 @@ fn lay_record(r: Record, laying: Laying, loops: &[u16], list: &mut [u8]) -> Layi
 {
     let kind = r.kind;
     let after = laying.take(kind, loops);
-    if laying.lays(kind) {
+    if laid::lays(laying, kind) {
         let place = entries::less(laying.place);
-        put::put(list, place, laying.record_for(r));
+        put::put(list, place, laid::record_for(laying, r));
     }
     after
 }

@@ -3,15 +3,10 @@
 ghost use mathlib.Core.Path.{_≡_};
 ghost use Prim.Native.Nat.{_-_};
 ghost use lib.ListN.{getD};
-ghost use Rattle.record.specs.View.{as-record, as-list-record};
-ghost use Rattle.layout.specs.Layout.{before-last, stepped, pushed, switched, popped, turned, after-kind, lays as laysOf, record-for};
+ghost use Rattle.layout.specs.Layout.{before-last, stepped, pushed, switched, popped, turned, after-kind};
 use entries::entry;
-use entries::is_step;
 use entries::less;
-use entries::listed;
 use entries::one_less;
-use entries::stop;
-use record::ListRecord;
 use record::Record;
 
 // Places for what is known of open parts, from 1 on: at most sixteen are open.
@@ -83,7 +78,7 @@ impl Laying {
     }
 
     // What comes after the innermost part's statement; 0 past the sixteenth.
-    fn coming(self) -> u16
+    pub fn coming(self) -> u16
         ensures { λ r. ⌜ r ≡ getD (self .after) (self .depth) 0 ⌝ }
     {
         let after = self.after;
@@ -91,7 +86,7 @@ impl Laying {
     }
 
     // Where the innermost part's second branch starts; 0 past the sixteenth.
-    fn other(self) -> u16
+    pub fn other(self) -> u16
         ensures { λ r. ⌜ r ≡ getD (self .second) (self .depth) 0 ⌝ }
     {
         let second = self.second;
@@ -182,39 +177,5 @@ impl Laying {
         let left = one_less(self.loops);
         let place = entry(loops, left);
         self.push(place, self.inside, left)
-    }
-
-    // Whether a record of the list is laid for a record of this kind.
-    pub fn lays(self, kind: u8) -> bool
-        ensures { λ r. ⌜ r ≡ laysOf kind self ⌝ }
-    {
-        if is_step(kind) {
-            return true;
-        }
-        (kind == Record::STATION) & (self.station != 0)
-    }
-
-    // The record of the list laid for a record of the file.
-    pub fn record_for(self, r: Record) -> ListRecord
-        ensures { λ e. ⌜ as-list-record e ≡ record-for (as-record r) self ⌝ }
-    {
-        let kind = r.kind;
-        let station = self.station;
-        if kind == Record::STATION {
-            return stop(station);
-        }
-        if station == Record::NO_STATION {
-            return listed(r, Record::NO_STATION, 0, 0, 0);
-        }
-        if kind == Record::IF {
-            return listed(r, station, self.inside, self.next, self.other());
-        }
-        if kind == Record::WHILE {
-            return listed(r, station, self.inside, self.next, self.coming());
-        }
-        if kind == Record::AWAIT {
-            return listed(r, station, 0, self.place, self.coming());
-        }
-        listed(r, station, self.inside, self.next, 0)
     }
 }

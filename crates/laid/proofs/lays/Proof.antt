@@ -1,10 +1,10 @@
--- `layout::Laying::lays` meets its contract: `is_step` answers for the five kinds of steps, and the tests that are left
+-- `laid::lays` meets its contract: `is_step` answers for the five kinds of steps, and the tests that are left
 -- are the definition's.
 -- Assumes nothing.
 use borrow.Author.Needs.{needs}
 use Rattle.layout.specs.Layout.{lays}
-use Rattle.layout.proofs.Laying.lays.Statement.{statement}
-use Rattle.layout.proofs.Laying.lays.Tie as tie
+use Rattle.laid.proofs.lays.Statement.{statement}
+use Rattle.laid.proofs.lays.Tie as tie
 
 is-step-requires : tie.Need-is-step-requires
 is-step-requires c κs = search needs

@@ -1,11 +1,11 @@
--- `layout::Laying::record_for` meets its contract: the tests that led to a return are those of the definition, in its
+-- `laid::record_for` meets its contract: the tests that led to a return are those of the definition, in its
 -- order.
 -- Assumes nothing.
 use borrow.Author.Needs.{needs}
 use borrow.Author.Tests.{eq-eqb, ne-eqb}
 use Rattle.layout.specs.Layout.{record-for}
-use Rattle.layout.proofs.Laying.record_for.Statement.{statement}
-use Rattle.layout.proofs.Laying.record_for.Tie as tie
+use Rattle.laid.proofs.record_for.Statement.{statement}
+use Rattle.laid.proofs.record_for.Tie as tie
 
 stop-requires : tie.Need-stop-requires
 stop-requires c κs = search needs
