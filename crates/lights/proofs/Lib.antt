@@ -1,4 +1,3 @@
 pub mod Rows
-pub mod Bits
-pub mod Stations
+pub mod Answers
 pub mod Only

@@ -1,4 +1,3 @@
--- The lights of the code, set beside those of the rules; what is promised of them; and the masks from a station on.
+-- The lights of the code, set beside those of the rules; and what is promised of them.
 pub mod View
 pub mod Promises
-pub mod Masks

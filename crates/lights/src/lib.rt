@@ -1,5 +1,5 @@
 // The lights: which stations are ready, in turn, waiting and ended, and which read and write each variable next, of any list and any state
-// whatever. `answer` has what they answer, `masks` how it is gathered.
+// whatever. `answer` has what they answer; `masks` gathers it.
 ghost use mathlib.Core.Path.{_≡_};
 ghost use Rattle.run.specs.View.{as-state};
 ghost use Rattle.lights.specs.View.{as-lights, refused-by};
@@ -9,7 +9,6 @@ use record::Record;
 use run::State;
 
 mod answer;
-mod masks;
 
 pub use answer::Lights;
 
@@ -23,7 +22,9 @@ pub fn lights(state: State, list: &[u8]) -> Lights
     if !state.sound(list) {
         return refused(Record::STATE);
     }
-    let masks = Masks::of(state, list);
+    let positions = state.positions;
+    let priorities = state.priorities;
+    let masks = Masks::of(list, &state.vars, positions, priorities, state.n);
     let reads = masks.reads;
     let writes = masks.writes;
     Lights::of(

@@ -3,7 +3,7 @@
 use mathlib.Core.Path.{sym, _∙_}
 use borrow.Author.Needs.{needs}
 use borrow.Author.Tests.{not-true, not-false}
-use Rattle.lights.proofs.Stations.{refused-list, refused-state, sound-both, gathered-all}
+use Rattle.lights.proofs.Answers.{refused-list, refused-state, sound-both, gathered-all}
 use Rattle.lights.proofs.lights.Statement.{statement}
 use Rattle.lights.proofs.lights.Tie as tie
 
@@ -33,10 +33,7 @@ returns-2 c =
     (sym (state .sound2 .ensures) ∙ not-true _ (c .before .if2 .taken))
 
 of-requires : tie.Need-of-requires
-of-requires c κs =
-    let state = c .before in
-    let list = state .before .before in
-    sound-both (list .sound .ensures) (state .before .if1 .left) (state .sound2 .ensures) (c .if2 .left)
+of-requires c κs = search needs
 
 of-requires-2 : tie.Need-of-requires-2
 of-requires-2 c κs = search needs
@@ -44,9 +41,10 @@ of-requires-2 c κs = search needs
 returns-3 : tie.Need-returns-3
 returns-3 c =
     let gathered = c .before .before .before in
-    let state = gathered .before .before in
+    let passed = gathered .before .before .before .before .before in
+    let state = passed .before in
     let list = state .before .before in
-    let sound = sound-both (list .sound .ensures) (state .before .if1 .left) (state .sound2 .ensures) (gathered .before .if2 .left) in
+    let sound = sound-both (list .sound .ensures) (state .before .if1 .left) (state .sound2 .ensures) (passed .if2 .left) in
     rw (c .of2 .ensures) (gathered-all _ _ sound (gathered .of .result) (gathered .of .ensures))
 
 pub lights-spec : {M : Type 1} → statement M

@@ -1,7 +1,7 @@
--- `lights::masks::Masks::with_station` meets its contract: each mask takes the station's bit, for which it has room.
+-- `masks::Masks::with_station` meets its contract: each mask takes the station's bit, for which it has room.
 -- Assumes nothing.
-use Rattle.lights.proofs.masks.Masks.with_station.Statement.{statement}
-use Rattle.lights.proofs.masks.Masks.with_station.Tie as tie
+use Rattle.masks.proofs.Masks.with_station.Statement.{statement}
+use Rattle.masks.proofs.Masks.with_station.Tie as tie
 
 with-bit-requires : tie.Need-with-bit-requires
 with-bit-requires c κs = c .before .before .before .before .pre .ready

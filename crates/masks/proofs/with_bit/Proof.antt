@@ -1,9 +1,9 @@
--- `lights::masks::with_bit` meets its contract.
+-- `masks::with_bit` meets its contract.
 -- Assumes nothing.
 use native.Mathlib.Omega.{arith}
 use borrow.Author.Needs.{needs}
-use Rattle.lights.proofs.masks.with_bit.Statement.{statement}
-use Rattle.lights.proofs.masks.with_bit.Tie as tie
+use Rattle.masks.proofs.with_bit.Statement.{statement}
+use Rattle.masks.proofs.with_bit.Tie as tie
 
 mul-result : tie.Need-mul-result
 mul-result c = search needs

@@ -1,16 +1,18 @@
 -- The masks of the stations from one on, as the code gathers them from the last station down. These are definitions.
 use mathlib.Core.Bool.{Bool, false}
 use mathlib.Core.List.{List}
-use Prim.Native.Nat.{ℕ, _+_, _-_, _*_, _<_}
+use Prim.Native.Nat.{ℕ, _+_, _-_, _*_, _<_, min}
 use lib.ListN.{getD}
+use lib.IntN.{ℤ}
 use Rattle.rules.specs.Words.{if_then_else_, mask, values}
-use Rattle.rules.specs.Names.{variables}
+use Rattle.rules.specs.Names.{variables, max-stations}
 use Rattle.rules.specs.Records.{Record}
-use Rattle.rules.specs.State.{State}
-use Rattle.rules.specs.Ready.{ready, waiting, ended}
-use Rattle.rules.specs.Lights.{reads, writes, touches, in-turn}
+use Rattle.rules.specs.State.{State, stepless}
+use Rattle.rules.specs.Ready.{next-step, ready, waiting, ended}
+use Rattle.rules.specs.Lights.{reads, writes, in-turn}
+use Rattle.touches.specs.Touched.{touched}
 use Rattle.touches.specs.declared.Touched.{Touched}
-use Rattle.lights.specs.declared.masks.Masks.{Masks}
+use Rattle.masks.specs.declared.Masks.{Masks}
 
 -- a mask with a place more before its own
 abbrev pub with-bit : Bool → ℕ → ℕ
@@ -20,9 +22,13 @@ with-bit bit mask = (if bit then 1 else 0) + 2 * mask
 unfoldable pub mask-from : (ℕ → Bool) → ℕ → ℕ → ℕ
 mask-from f n j = mask (λ i. f (j + i)) (n - j)
 
+-- the stations from j on whose next step does this
+abbrev pub does-from : (Record → Bool) → List ℕ → State → ℕ → ℕ
+does-from does list s j = mask-from (λ i. touched does list (next-step list s i)) (s .n) j
+
 -- a row, of the stations from j on
 abbrev pub row-from : (ℕ → Record → Bool) → List ℕ → State → ℕ → List ℕ
-row-from does list s j = values (λ v. mask-from (touches (does v) list s) (s .n) j) variables
+row-from does list s j = values (λ v. does-from (does v) list s j) variables
 
 abbrev pub masks-from : List ℕ → State → ℕ → Masks
 masks-from list s j =
@@ -34,6 +40,10 @@ masks-from list s j =
       reads = row-from reads list s j;
       writes = row-from writes list s j;
     }
+
+-- a state of these parts and of eight stations at most: the masks do not depend on its b and m
+abbrev pub state-of : List ℕ → List ℕ → List ℤ → ℕ → State
+state-of vars positions priorities n = stepless vars positions priorities (min n max-stations) 0
 
 -- each mask has room for a station more
 pub record Room (masks : Masks) : Type 0 where

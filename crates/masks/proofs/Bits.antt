@@ -7,10 +7,10 @@ use native.Mathlib.Omega.{arith}
 use lib.Pow.{pow-pos}
 use Rattle.rules.specs.Words.{mask}
 use Rattle.laws.proofs.Choice.{by-test}
-use Rattle.lights.specs.Masks.{with-bit, mask-from}
+use Rattle.masks.specs.Masks.{with-bit, mask-from}
 
 -- the tests need agree only below n
-mask-same : (f g : ℕ → Bool) (n : ℕ) → ((i : ℕ) → i < n → f i ≡ g i) → mask f n ≡ mask g n
+pub mask-same : (f g : ℕ → Bool) (n : ℕ) → ((i : ℕ) → i < n → f i ≡ g i) → mask f n ≡ mask g n
 unfolding mask
 mask-same f g zero h = refl
 mask-same f g (suc n) h =

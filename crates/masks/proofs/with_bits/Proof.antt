@@ -1,4 +1,4 @@
--- `lights::masks::with_bits` meets its contract. The loop's invariant: the masks of the variables passed are in the row. The measure is
+-- `masks::with_bits` meets its contract. The loop's invariant: the masks of the variables passed are in the row. The measure is
 -- what is left of the variables.
 -- Assumes nothing.
 use mathlib.Core.Path.{_≡_, _∙_}
@@ -9,9 +9,9 @@ use borrow.Author.Needs.{needs}
 use lib.ListN.{getD}
 use Rattle.rules.specs.Names.{variables}
 use Rattle.laws.proofs.Filled.{filled, filled-none, filled-more, filled-all}
-use Rattle.lights.specs.Masks.{with-bit}
-use Rattle.lights.proofs.masks.with_bits.Statement.{statement}
-use Rattle.lights.proofs.masks.with_bits.Tie as tie
+use Rattle.masks.specs.Masks.{with-bit}
+use Rattle.masks.proofs.with_bits.Statement.{statement}
+use Rattle.masks.proofs.with_bits.Tie as tie
 
 abbrev Inv-loop : tie.InvT-loop
 Inv-loop masks bits row₀ v₀ row v =

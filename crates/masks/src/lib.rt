@@ -1,39 +1,40 @@
-// The station masks, gathered from the last station down to station 0: each takes bit 0, and those after it move up.
+// The station masks, gathered from the last station down to station 0: each takes bit 0, and those after it move up. They are of any list
+// and of the parts of any state, of eight stations at most.
 ghost use mathlib.Core.Path.{_≡_};
-ghost use Prim.Native.Nat.{ℕ, _<_};
+ghost use Prim.Native.Nat.{ℕ, _<_, min};
 ghost use mathlib.Core.Bool.{false};
 ghost use lib.ListN.{getD};
 ghost use Rattle.rules.specs.Words.{values};
-ghost use Rattle.rules.specs.Names.{variables};
-ghost use Rattle.laws.specs.Passed.{Known};
-ghost use Rattle.run.specs.View.{as-state};
-ghost use Rattle.lights.specs.Masks.{with-bit, with-station, masks-from, Room};
+ghost use Rattle.rules.specs.Names.{variables, max-stations};
+ghost use Rattle.masks.specs.Masks.{with-bit, with-station, state-of, masks-from, Room};
 use record::ListRecord;
 use record::Record;
-use run::State;
 use touches::Touched;
 
 // Of the stations from one on, which is bit 0: those that are ready, in turn, waiting and ended; and for each variable those whose next
 // step reads it, and those whose next step writes it.
-pub(crate) struct Masks {
-    pub(crate) ready: u8,
-    pub(crate) in_turn: u8,
-    pub(crate) waiting: u8,
-    pub(crate) ended: u8,
-    pub(crate) reads: [u8; 32],
-    pub(crate) writes: [u8; 32],
+pub struct Masks {
+    pub ready: u8,
+    pub in_turn: u8,
+    pub waiting: u8,
+    pub ended: u8,
+    pub reads: [u8; 32],
+    pub writes: [u8; 32],
 }
 
 impl Masks {
-    // The masks of all stations, in a sound state of a sound list. Readiness is worked out once.
-    pub(crate) fn of(state: State, list: &[u8]) -> Masks
-        requires { ⌜ Known (now list) (as-state state) ⌝ }
-        ensures { λ r. ⌜ r ≡ masks-from (now (list .entry)) (as-state state) 0 ⌝ }
+    // The masks of the first n stations, at most eight, of a list, the variables, positions and priorities. Readiness is worked out once.
+    pub fn of(
+        list: &[u8],
+        vars: &[u32; 32],
+        positions: [u16; 8],
+        priorities: [i16; 8],
+        n: u8,
+    ) -> Masks
+        ensures { λ r. ⌜ r ≡ masks-from (now (list .entry)) (state-of (now (vars .entry)) positions priorities n) 0 ⌝ }
     {
-        let positions = state.positions;
-        let priorities = state.priorities;
-        let n = state.n as usize;
-        let all = stations::readiness(list, &state.vars, positions);
+        let count = few(n as usize);
+        let all = stations::readiness(list, vars, positions);
         let mut masks = Masks {
             ready: 0,
             in_turn: 0,
@@ -42,12 +43,12 @@ impl Masks {
             reads: [0u8; 32],
             writes: [0u8; 32],
         };
-        let mut j = n;
+        let mut j = count;
         while 0 < j {
             j -= 1;
             let e = ListRecord::at(list, positions[j] as usize);
-            let in_turn = all[j] & stations::lowest_of(all, priorities, n, j);
-            let waiting = stations::waiting_at(&state.vars, e);
+            let in_turn = all[j] & stations::lowest_of(all, priorities, count, j);
+            let waiting = stations::waiting_at(vars, e);
             let ended = stations::ended_at(e);
             masks = masks.with_station(all[j], in_turn, waiting, ended, Touched::of(list, e));
         }
@@ -79,6 +80,16 @@ impl Masks {
             writes: with_bits(writes, written),
         }
     }
+}
+
+// A number of stations, at most eight.
+fn few(n: usize) -> usize
+    ensures { λ r. ⌜ r ≡ min n max-stations ⌝ }
+{
+    if n < Record::MAX_STATIONS {
+        return n;
+    }
+    Record::MAX_STATIONS
 }
 
 // A mask with a station more before its own, whose bit 0 is this.

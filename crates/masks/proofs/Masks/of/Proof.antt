@@ -1,0 +1,143 @@
+-- `masks::Masks::of` meets its contract. The loop's invariant: the masks of the stations from j on are gathered. The measure is j.
+-- Assumes nothing.
+use mathlib.Core.Path.{_≡_, ap, _∙_}
+use Prim.Native.Nat.{_+_, _-_, _≤_, _<_, min}
+use native.Mathlib.Nat.{min-le-right}
+use native.Mathlib.Omega.{arith}
+use borrow.Author.Needs.{needs}
+use Rattle.rules.specs.Names.{max-stations}
+use Rattle.rules.specs.State.{State}
+use Rattle.rules.specs.Ready.{ended-at, waiting-at, waiting, ended}
+use Rattle.touches.specs.Touched.{touched-by}
+use Rattle.masks.specs.Masks.{state-of, masks-from}
+use Rattle.masks.proofs.Stations.{turn-known, gathered-none, gathered-more, room}
+use Rattle.masks.proofs.Masks.of.Statement.{statement}
+use Rattle.masks.proofs.Masks.of.Tie as tie
+
+abbrev Inv-loop : tie.InvT-loop
+Inv-loop list vars priorities n positions count all masks₀ j₀ masks j =
+    (j ≤ min n max-stations) × (masks ≡ masks-from list (state-of vars positions priorities n) j)
+
+abbrev μ-loop : tie.MeasureT-loop
+μ-loop list vars priorities n positions count all masks₀ j₀ masks j = j
+
+-- the state of the parts given
+abbrev state-at : tie.After-readiness Inv-loop μ-loop → State
+state-at c =
+    let given = c .before .before .before .args in
+    state-of (given .vars .now) (given .t3) (given .priorities) (given .n)
+
+few : (c : tie.After-readiness Inv-loop μ-loop) → state-at c .n ≤ max-stations
+few c = min-le-right (c .before .before .before .args .n) max-stations
+
+-- the station reached has its place
+within : (c : tie.In-loop Inv-loop μ-loop) → c .before .loop .j - 1 < max-stations
+within c = omega (arith, c .loop-test .taken, c .before .loop .inv .0, few (c .before .before))
+
+few-requires : tie.Need-few-requires Inv-loop μ-loop
+few-requires c κs = search needs
+
+readiness-requires : tie.Need-readiness-requires Inv-loop μ-loop
+readiness-requires c κs = search needs
+
+loop-holds : tie.Need-loop-holds Inv-loop μ-loop
+loop-holds c =
+    let counted = c .before in
+    (omega (arith, counted .few .ensures), rw (counted .few .ensures) (gathered-none _ (state-at c)))
+
+sub-j : tie.Need-sub-j Inv-loop μ-loop
+sub-j c = search needs
+
+mul-at : tie.Need-mul-at Inv-loop μ-loop
+mul-at c = search needs
+
+array-read-at : tie.Need-array-read-at Inv-loop μ-loop
+array-read-at c = within c
+
+cast-at : tie.Need-cast-at Inv-loop μ-loop
+cast-at c = search needs
+
+at-requires : tie.Need-at-requires Inv-loop μ-loop
+at-requires c κs = search needs
+
+array-read-in-turn : tie.Need-array-read-in-turn Inv-loop μ-loop
+array-read-in-turn c = within (c .before)
+
+lowest-of-requires : tie.Need-lowest-of-requires Inv-loop μ-loop
+lowest-of-requires c κs = search needs
+
+waiting-at-requires : tie.Need-waiting-at-requires Inv-loop μ-loop
+waiting-at-requires c κs = search needs
+
+ended-at-requires : tie.Need-ended-at-requires Inv-loop μ-loop
+ended-at-requires c κs = search needs
+
+array-read-with-station : tie.Need-array-read-with-station Inv-loop μ-loop
+array-read-with-station c = within (c .before .before .before .before)
+
+of-requires : tie.Need-of-requires Inv-loop μ-loop
+of-requires c κs = search needs
+
+with-station-requires : tie.Need-with-station-requires Inv-loop μ-loop
+with-station-requires c κs =
+    let turn = c .before .before .before .before .before in
+    let at = turn .before in
+    let back : at .loop .j - 1 + 1 ≡ at .loop .j = omega (arith, turn .loop-test .taken) in
+    rw (at .loop .inv .1, ← back) (room _ (state-at (at .before)) (at .loop .j - 1) (few (at .before)))
+
+loop-less : tie.Need-loop-less Inv-loop μ-loop
+loop-less c = search needs
+
+loop-again : tie.Need-loop-again Inv-loop μ-loop
+unfolding waiting ended
+loop-again c =
+    let of = c .before in
+    let ended = of .before in
+    let waits = ended .before in
+    let low = waits .before in
+    let found = low .before in
+    let turn = found .before in
+    let at = turn .before in
+    let all = at .before in
+    let list = all .before .before .before .args .list .now in
+    let s = state-at all in
+    let j = at .loop .j - 1 in
+    let back : j + 1 ≡ at .loop .j = omega (arith, turn .loop-test .taken) in
+    let here : j < s .n = omega (arith, turn .loop-test .taken, at .loop .inv .0) in
+    let turns = turn-known list s (all .readiness .ensures) (few all) here (all .before .few .ensures) (low .lowest-of .ensures) in
+    let so-far : at .loop .masks ≡ masks-from list s (j + 1) = rw back (at .loop .inv .1) in (
+      omega (arith, at .loop .inv .0),
+      gathered-more list s (c .with-station .ensures) here so-far (turns .0) (turns .1)
+          (waits .waiting-at .ensures ∙ ap (waiting-at (s .vars)) (found .at .ensures)) (ended .ended-at .ensures ∙ ap ended-at (found .at .ensures))
+          (of .of .ensures ∙ ap (touched-by list) (found .at .ensures)),
+    )
+
+returns : tie.Need-returns Inv-loop μ-loop
+returns c =
+    let none : c .before .loop .j ≡ 0 = omega arith in
+    rw none at (c .before .loop .inv .1)
+
+pub of-spec : {M : Type 1} → statement M
+of-spec =
+    tie.close
+    (tie.spec
+    Inv-loop
+    μ-loop
+    few-requires
+    readiness-requires
+    loop-holds
+    sub-j
+    mul-at
+    array-read-at
+    cast-at
+    at-requires
+    array-read-in-turn
+    lowest-of-requires
+    waiting-at-requires
+    ended-at-requires
+    array-read-with-station
+    of-requires
+    with-station-requires
+    loop-less
+    loop-again
+    returns)

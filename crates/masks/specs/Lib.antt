@@ -1,0 +1,2 @@
+-- The masks of the stations from one on.
+pub mod Masks
