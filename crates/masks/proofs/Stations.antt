@@ -3,9 +3,14 @@
 use mathlib.Core.Path.{_≡_, _∙_}
 use mathlib.Core.Bool.{Bool, true, false, _&&_}
 use mathlib.Core.List.{List}
-use Prim.Native.Nat.{ℕ, _+_, _≤_, _<_}
-use lib.ListN.{getD, replicate}
-use Rattle.rules.specs.Words.{values}
+use Prim.Native.Nat.{ℕ, zero, suc, _+_, _≤_, _<_, min}
+use native.Mathlib.Nat.{min-eq-left, min-eq-right, not-suc-le-zero, le-of-suc-le-suc}
+use native.Mathlib.Omega.{arith}
+use borrow.Author.Tests.{leb-true, leb-false}
+use lib.Dec.{leb}
+use lib.IntN.{ℤ}
+use lib.ListN.{length, getD, replicate, List·getD-eq-default}
+use Rattle.rules.specs.Words.{each, values}
 use Rattle.rules.specs.Names.{variables, max-stations}
 use Rattle.rules.specs.Records.{Record}
 use Rattle.rules.specs.List.{sound-list}
@@ -13,7 +18,8 @@ use Rattle.rules.specs.State.{State, priority}
 use Rattle.rules.specs.Turn.{lowest-of}
 use Rattle.rules.specs.Ready.{next-step, ready-at, ready, waiting, ended}
 use Rattle.rules.specs.Lights.{reads, writes, in-turn, row-of}
-use Rattle.laws.proofs.Places.{getD-values, values-same}
+use Rattle.laws.proofs.Choice.{by-test}
+use Rattle.laws.proofs.Places.{each-all, length-values, getD-values, values-same}
 use Rattle.stations.proofs.Known.{readied, ready-known, lowest-known}
 use Rattle.touches.specs.Touched.{touched, touched-by}
 use Rattle.touches.proofs.Sound.{touches-so}
@@ -21,6 +27,25 @@ use Rattle.touches.specs.declared.Touched.{Touched}
 use Rattle.masks.specs.declared.Masks.{Masks}
 use Rattle.masks.specs.Masks.{Room, does-from, row-from, row-with, with-station, masks-from}
 use Rattle.masks.proofs.Bits.{mask-same, mask-from-none, mask-from-more, mask-from-all, mask-from-small}
+
+-- a test that holds from a place on need be made only before it
+each-before : (f : ℕ → Bool) (m n : ℕ) → m ≤ n → ((i : ℕ) → m ≤ i → f i ≡ true) → each f n ≡ each f m
+unfolding each
+each-before f zero n within h = each-all f n (λ i l. h i (omega arith))
+each-before f (suc m) zero within h = absurd (not-suc-le-zero within)
+each-before f (suc m) (suc n) within h =
+    rw (each-before (λ i. f (suc i)) m n (le-of-suc-le-suc within) (λ i l. h (suc i) (omega arith)))
+
+-- no station past the eighth is ready, so that none of those is lower
+lowest-few : {all : List Bool} (f : ℕ → Bool) (n : ℕ) (priority : ℕ → ℤ) (j : ℕ) → all ≡ values f max-stations
+    → lowest-of n (λ i. getD all i false) priority j ≡ lowest-of (min n max-stations) (λ i. getD all i false) priority j
+lowest-few {all = all} f n priority j known =
+    let long : length all ≡ max-stations = rw known (length-values f max-stations) in
+    by-test (leb n max-stations) (λ e. rw (min-eq-left (leb-true n max-stations e)))
+    (λ e.
+    let past : max-stations ≤ n = omega (arith, leb-false n max-stations e) in
+    rw (min-eq-right past)
+    (each-before _ max-stations n past (λ i l. rw (List·getD-eq-default all false {n = i} (omega (arith, long))))))
 
 module _ (list : List ℕ) (s : State) where
   -- whether station j's next step does this
@@ -53,15 +78,15 @@ module _ (list : List ℕ) (s : State) where
         ← mask-from-none (ended list s) (s .n),
       )
 
-  -- one station more: whether it is ready and in turn, of the readiness and the count worked out
-  pub turn-known : {all : List Bool} {j count : ℕ} {low : Bool}
+  -- one station more: whether it is ready and in turn, of the readiness that was worked out
+  pub turn-known : {all : List Bool} {j : ℕ} {low : Bool} (n : ℕ)
       → all ≡ values (λ i. ready-at (s .vars) (next-step list s i)) max-stations → s .n ≤ max-stations → j < s .n
-      → count ≡ s .n → low ≡ lowest-of count (λ i. getD all i false) (priority s) j
+      → min n max-stations ≡ s .n → low ≡ lowest-of n (λ i. getD all i false) (priority s) j
       → (getD all j false ≡ ready list s j) × ((getD all j false && low) ≡ in-turn list s j)
-  turn-known {j = j} all few station count low =
+  turn-known {j = j} n all few station count low =
       let known = readied list s all in
       let here = ready-known list s known few j station in
-      (here, rw (here, low, count, lowest-known list s known few j))
+      (here, rw (here, low ∙ lowest-few (ready list s) n (priority s) j known, count, lowest-known list s known few j))
 
   row-more : (does : ℕ → Record → Bool) (j : ℕ) → j < s .n
       → row-with (values (λ v. by-step (does v) j) variables) (row-from does list s (j + 1)) ≡ row-from does list s j

@@ -24,6 +24,7 @@ pub struct Masks {
 
 impl Masks {
     // The masks of the first n stations, at most eight, of a list, the variables, positions and priorities. Readiness is worked out once.
+    // The lowest is sought among as many stations as are given: past the eighth none is ready.
     pub fn of(
         list: &[u8],
         vars: &[u32; 32],
@@ -33,7 +34,8 @@ impl Masks {
     ) -> Masks
         ensures { λ r. ⌜ r ≡ masks-from (now (list .entry)) (state-of (now (vars .entry)) positions priorities n) 0 ⌝ }
     {
-        let count = few(n as usize);
+        let given = n as usize;
+        let count = few(given);
         let all = stations::readiness(list, vars, positions);
         let mut masks = Masks {
             ready: 0,
@@ -47,7 +49,7 @@ impl Masks {
         while 0 < j {
             j -= 1;
             let e = ListRecord::at(list, positions[j] as usize);
-            let in_turn = all[j] & stations::lowest_of(all, priorities, count, j);
+            let in_turn = all[j] & stations::lowest_of(all, priorities, given, j);
             let waiting = stations::waiting_at(vars, e);
             let ended = stations::ended_at(e);
             masks = masks.with_station(all[j], in_turn, waiting, ended, Touched::of(list, e));

@@ -1,6 +1,6 @@
 -- `masks::Masks::of` meets its contract. The loop's invariant: the masks of the stations from j on are gathered. The measure is j.
 -- Assumes nothing.
-use mathlib.Core.Path.{_≡_, ap, _∙_}
+use mathlib.Core.Path.{_≡_, refl, ap, _∙_}
 use Prim.Native.Nat.{_+_, _-_, _≤_, _<_, min}
 use native.Mathlib.Nat.{min-le-right}
 use native.Mathlib.Omega.{arith}
@@ -15,11 +15,11 @@ use Rattle.masks.proofs.Masks.of.Statement.{statement}
 use Rattle.masks.proofs.Masks.of.Tie as tie
 
 abbrev Inv-loop : tie.InvT-loop
-Inv-loop list vars priorities n positions count all masks₀ j₀ masks j =
+Inv-loop list vars priorities n positions given count all masks₀ j₀ masks j =
     (j ≤ min n max-stations) × (masks ≡ masks-from list (state-of vars positions priorities n) j)
 
 abbrev μ-loop : tie.MeasureT-loop
-μ-loop list vars priorities n positions count all masks₀ j₀ masks j = j
+μ-loop list vars priorities n positions given count all masks₀ j₀ masks j = j
 
 -- the state of the parts given
 abbrev state-at : tie.After-readiness Inv-loop μ-loop → State
@@ -99,12 +99,13 @@ loop-again c =
     let turn = found .before in
     let at = turn .before in
     let all = at .before in
-    let list = all .before .before .before .args .list .now in
+    let given = all .before .before .before .args in
+    let list = given .list .now in
     let s = state-at all in
     let j = at .loop .j - 1 in
     let back : j + 1 ≡ at .loop .j = omega (arith, turn .loop-test .taken) in
     let here : j < s .n = omega (arith, turn .loop-test .taken, at .loop .inv .0) in
-    let turns = turn-known list s (all .readiness .ensures) (few all) here (all .before .few .ensures) (low .lowest-of .ensures) in
+    let turns = turn-known list s (given .n) (all .readiness .ensures) (few all) here refl (low .lowest-of .ensures) in
     let so-far : at .loop .masks ≡ masks-from list s (j + 1) = rw back (at .loop .inv .1) in (
       omega (arith, at .loop .inv .0),
       gathered-more list s (c .with-station .ensures) here so-far (turns .0) (turns .1)
