@@ -2,36 +2,18 @@
 // and prints one answer line a case. The head of independent/cases.c says how a case and its line are spelled.
 // Both files are the independent program's, which independent/build.sh makes: `independent/cases write 1` writes data/cases.bin, and
 // `independent/cases answer`, given that, prints the file stdout.
-use answers::BUILD;
-use answers::CHECK;
-use answers::LIGHTS;
-use answers::RUN;
-use answers::START;
-use answers::STEP;
-use answers::TRACE;
-use answers::UNDO;
+use traces::TRACE;
 
-mod answers;
-mod cases;
-mod fields;
-mod hash;
-mod lines;
-mod states;
+mod traces;
 
 // Reads a case, which begins with its call's number, and writes its line. It answers whether to go on: not at the end of the stream, at a
 // number that no call has, or where the line cannot be written.
 fn answer(file: i32) -> bool {
-    match fields::byte(file) {
-        CHECK => cases::check(file),
-        BUILD => cases::build(file),
-        START => cases::start(file),
-        STEP => cases::step(file),
-        RUN => cases::run(file),
-        UNDO => cases::undo(file),
-        LIGHTS => cases::lights(file),
-        TRACE => cases::trace(file),
-        _ => false,
+    let call = vectors::byte(file);
+    if call == TRACE {
+        return traces::case(file);
     }
+    vectors::answer(file, call)
 }
 
 // Answers case after case. The loop has to end and nothing says that a stream does, so it counts down from a number that no stream uses up.

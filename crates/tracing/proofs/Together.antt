@@ -104,7 +104,7 @@ less list picks log s count (End number) = omega arith
 less list picks log s count Nothing = omega arith
 
 -- a piece leaves fewer than there were
-pub left-less : (list picks log : List ℕ) (t : Tracing) → left picks (piece list picks log t .tracing) ≤ left picks t - 1
+left-less : (list picks log : List ℕ) (t : Tracing) → left picks (piece list picks log t .tracing) ≤ left picks t - 1
 left-less list picks log t = less list picks log (t .state) (t .count) (t .next)
 
 some : (picks : List ℕ) (s : State) (count : ℕ) (next : Next) → all-printed (at s count next) ≡ false → 0 < left picks (at s count next)
@@ -114,8 +114,13 @@ some picks s count (End number) more = omega arith
 some picks s count Nothing more = absurd (true≢false more)
 
 -- where not all is printed, some are left
-pub left-some : (picks : List ℕ) (t : Tracing) → all-printed t ≡ false → 0 < left picks t
+left-some : (picks : List ℕ) (t : Tracing) → all-printed t ≡ false → 0 < left picks t
 left-some picks t = some picks (t .state) (t .count) (t .next)
+
+-- where not all is printed, a piece leaves fewer to print
+pub left-falls : (list picks log : List ℕ) (t : Tracing) {p : Piece} → all-printed t ≡ false → p ≡ piece list picks log t
+    → left picks (p .tracing) < left picks t
+left-falls list picks log t more is = rw is (omega (arith, left-some picks t more, left-less list picks log t))
 
 none : (list picks log : List ℕ) (s : State) (count : ℕ) (next : Next) → left picks (at s count next) ≤ 0
     → [] ≡ still list picks log (at s count next)

@@ -1,10 +1,9 @@
 -- `trace::print_all` is safe and ends. The loop's invariant: the log keeps its length. The measure is how many pieces are left at most. Assumes nothing.
-use Rattle.tracing.specs.Tracing.{Piece, left}
+use Rattle.tracing.specs.Tracing.{left}
 use Rattle.tracing.specs.View.{as-tracing}
-use Rattle.tracing.proofs.Together.{left-less, left-some}
+use Rattle.tracing.proofs.Together.{left-falls}
 use lib.ListN.{length}
-use native.Mathlib.Omega.{arith}
-use mathlib.Core.Path.{_≡_, refl, sym, _∙_, ap}
+use mathlib.Core.Path.{_≡_, refl, sym, _∙_}
 use borrow.Author.Tests.{not-true}
 use borrow.Author.Needs.{needs}
 use Rattle.trace.proofs.print_all.Statement.{statement}
@@ -40,11 +39,8 @@ loop-less c =
     let test = printed .before .before in
     let turn = test .before .before in
     let a = turn .before .before .before .before .args in
-    let t = as-tracing (turn .loop .tracer) in
-    let more = left-some (a .picks .now) t (sym (test .before .done .ensures) ∙ not-true _ (test .if1 .taken)) in
-    let fewer = left-less (a .list .now) (a .picks .now) (turn .loop .log) t in
-    let same = ap (λ (p : Piece). left (a .picks .now) (p .tracing)) (printed .next .ensures) in
-    omega (arith, same, more, fewer)
+    left-falls (a .list .now) (a .picks .now) (turn .loop .log) (as-tracing (turn .loop .tracer))
+    (sym (test .before .done .ensures) ∙ not-true _ (test .if1 .taken)) (printed .next .ensures)
 
 loop-again : tie.Need-loop-again Inv-loop μ-loop
 loop-again c =

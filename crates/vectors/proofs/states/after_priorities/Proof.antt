@@ -1,0 +1,54 @@
+-- `vectors::states::after_priorities` is safe and ends. Nothing has to hold from turn to turn; the measure is what is left of the 8. Assumes nothing.
+use Prim.Native.Nat.{_-_}
+use borrow.Author.Needs.{needs}
+use Rattle.vectors.proofs.states.after_priorities.Statement.{statement}
+use Rattle.vectors.proofs.states.after_priorities.Tie as tie
+
+abbrev Inv-loop : tie.InvT-loop
+Inv-loop h priorities sum₀ i₀ sum i = Unit {0}
+
+abbrev μ-loop : tie.MeasureT-loop
+μ-loop h priorities sum₀ i₀ sum i = 8 - i
+
+loop-holds : tie.Need-loop-holds Inv-loop μ-loop
+loop-holds c = search needs
+
+mul-unsigned : tie.Need-mul-unsigned Inv-loop μ-loop
+mul-unsigned c = search needs
+
+array-copy-out-unsigned : tie.Need-array-copy-out-unsigned Inv-loop μ-loop
+array-copy-out-unsigned c = search needs
+
+unsigned-requires : tie.Need-unsigned-requires Inv-loop μ-loop
+unsigned-requires c κs = search needs
+
+after-half-requires : tie.Need-after-half-requires Inv-loop μ-loop
+after-half-requires c κs = search needs
+
+add-i : tie.Need-add-i Inv-loop μ-loop
+add-i c = search needs
+
+loop-less : tie.Need-loop-less Inv-loop μ-loop
+loop-less c = search needs
+
+loop-again : tie.Need-loop-again Inv-loop μ-loop
+loop-again c = search needs
+
+returns : tie.Need-returns Inv-loop μ-loop
+returns c = search needs
+
+pub after-priorities-spec : {M : Type 1} → statement M
+after-priorities-spec =
+    tie.close
+    (tie.spec
+    Inv-loop
+    μ-loop
+    loop-holds
+    mul-unsigned
+    array-copy-out-unsigned
+    unsigned-requires
+    after-half-requires
+    add-i
+    loop-less
+    loop-again
+    returns)
