@@ -1,18 +1,18 @@
 -- One turn of a loop that runs records: what is left to run from the next record on is what was left before it.
 -- Assumes nothing.
-use mathlib.Core.Path.{_≡_, refl, sym}
-use mathlib.Core.List.{List, [], _∷_}
+use mathlib.Core.Path.{_≡_, refl}
+use mathlib.Core.List.{List}
 use Prim.Native.Nat.{ℕ, zero, suc, _+_, _*_, _≤_}
 use native.Mathlib.Numerals.{add-one}
 use native.Mathlib.Omega.{arith}
 use lib.ListN.{length, set}
 use lib.Seq.{set-set}
-use Rattle.rules.specs.Records.{ListRecord, record-from, list-record-at}
+use Rattle.rules.specs.Records.{ListRecord, list-record-at}
 use Rattle.rules.specs.Values.{set-value, assigned}
 use Rattle.rules.specs.Start.{initial-run}
 use Rattle.rules.specs.Move.{vars-after, target-after, body-run}
 use Rattle.laws.proofs.Bodies.{body-goes}
-use Rattle.record.proofs.Bytes.{past, spelled}
+use Rattle.record.proofs.Bytes.{none-past}
 
 -- a record of a body is run, with what the calls of a turn answer
 pub body-turn :
@@ -30,19 +30,12 @@ pub initial-turn :
 unfolding initial-run
 initial-turn list left place vars h e a = rw (h, a, e, add-one)
 
--- past the end of the list a record is zeros
-own-past :
-    (list : List ℕ) (place : ℕ) → length list ≤ place →
-    list-record-at list place .own ≡ record-from (0 ∷ 0 ∷ 0 ∷ 0 ∷ 0 ∷ 0 ∷ 0 ∷ 0 ∷ []) 0
-unfolding list-record-at
-own-past list place h = sym (spelled list (16 * place) (past list (16 * place) (omega arith)) refl)
-
--- which set variable 0 to 0
+-- past the end of the list a record is zeros, which set variable 0 to 0
 clears :
     (list : List ℕ) (place : ℕ) (vars : List ℕ) → length list ≤ place →
     assigned vars (list-record-at list place .own) ≡ set vars 0 0
-unfolding record-from set-value
-clears list place vars h = rw (own-past list place h)
+unfolding list-record-at set-value
+clears list place vars h = rw (none-past list (16 * place) (omega arith))
 
 -- so that the first of them does what any number of them does
 past-run :

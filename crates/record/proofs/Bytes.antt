@@ -1,32 +1,35 @@
--- Records are decoded from eight bytes at a time: what those eight are past the end, and what they spell where they stand.
--- Assumes nothing.
-use mathlib.Core.Path.{_≡_, _∙_}
-use mathlib.Core.List.{List, [], _∷_}
-use Prim.Native.Nat.{ℕ, _+_, _*_, _≤_}
-use native.Mathlib.Nat.{add-assoc}
+-- A record that is cut off, and one past the end, are decoded from sixteen bytes that stand for those there. Assumes nothing.
+use mathlib.Core.Path.{_≡_, sym, _∙_}
+use mathlib.Core.List.{List}
+use Prim.Native.Nat.{ℕ, _+_, _≤_}
+use native.Mathlib.Nat.{add-assoc, add-zero}
 use native.Mathlib.Omega.{arith}
-use lib.ListN.{length, getD, List·getD-eq-default}
-use Rattle.rules.specs.Records.{Record, ListRecord, record-from, list-record-at}
-use Rattle.record.specs.View.{eight-from, list-record-of}
+use lib.ListN.{length, getD, replicate, List·getD-eq-default}
+use Rattle.rules.specs.Words.{values}
+use Rattle.rules.specs.Records.{Record, record-from}
+use Rattle.record.specs.View.{list-record-from, sixteen-from}
 
--- past the end there are zeros
-pub past : (bytes : List ℕ) (at : ℕ) → length bytes ≤ at → 0 ∷ 0 ∷ 0 ∷ 0 ∷ 0 ∷ 0 ∷ 0 ∷ 0 ∷ [] ≡ eight-from bytes at
-past bytes at h =
-    let first : getD bytes at 0 ≡ 0 = List·getD-eq-default bytes 0 h in
-    let later : (j : ℕ) → getD bytes (at + j) 0 ≡ 0 = λ j. List·getD-eq-default bytes 0 (omega arith) in
-    simp (first, later)
+-- what the sixteen bytes from an offset spell is the record there
+pub spelled : (bytes : List ℕ) (at : ℕ) → record-from (sixteen-from bytes at) 0 ≡ record-from bytes at
+unfolding record-from values
+spelled bytes at = simp (add-assoc, add-zero)
 
--- what the eight bytes from an offset spell is the record there
-pub spelled :
-    (bytes : List ℕ) (at : ℕ) {eight : List ℕ} {r : Record} →
-    eight ≡ eight-from bytes at → r ≡ record-from eight 0 → r ≡ record-from bytes at
+pub list-spelled : (bytes : List ℕ) (at : ℕ) → list-record-from (sixteen-from bytes at) 0 ≡ list-record-from bytes at
+unfolding record-from values
+list-spelled bytes at = simp (add-assoc, add-zero)
+
+-- past the end they are zeros
+zeros-past : (bytes : List ℕ) (at : ℕ) → length bytes ≤ at → sixteen-from bytes at ≡ replicate 16 0
+unfolding values
+zeros-past bytes at h =
+    let later : (j : ℕ) → getD bytes (at + j) 0 ≡ 0 = λ j. List·getD-eq-default bytes 0 (omega arith) in simp later
+
+-- so that it does not matter how far
+pub past : (bytes : List ℕ) (a b : ℕ) → length bytes ≤ a → length bytes ≤ b → sixteen-from bytes a ≡ sixteen-from bytes b
+past bytes a b h k = zeros-past bytes a h ∙ sym (zeros-past bytes b k)
+
+-- and a record there is zeros
+pub none-past : (bytes : List ℕ) (at : ℕ) → length bytes ≤ at
+    → record-from bytes at ≡ record { kind = 0; a = 0; b = 0; op = 0; k = 0 }
 unfolding record-from
-spelled bytes at {eight} {r} e h = rw e at h ∙ simp add-assoc
-
--- the same of a list record, and the eight bytes that follow its own
-pub list-spelled :
-    (list : List ℕ) (p : ℕ) {own : Record} {second : List ℕ} {r : ListRecord} →
-    own ≡ record-from list (16 * p) → second ≡ eight-from list (16 * p + 8) → r ≡ list-record-of own second →
-    r ≡ list-record-at list p
-unfolding list-record-at
-list-spelled list p {own} {second} {r} e f h = rw (e, f) at h ∙ simp add-assoc
+none-past bytes at h = sym (spelled bytes at) ∙ rw (zeros-past bytes at h)

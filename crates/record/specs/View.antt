@@ -1,7 +1,8 @@
 -- The records of the code, seen as the records of the rules. These are definitions.
 use Prim.Native.Nat.{ℕ, _+_}
-use mathlib.Core.List.{List, [], _∷_}
+use mathlib.Core.List.{List}
 use lib.ListN.{getD}
+use Rattle.rules.specs.Words.{values}
 use Rattle.rules.specs.Records as rules
 use Rattle.record.specs.declared.Record.{Record}
 use Rattle.record.specs.declared.ListRecord.{ListRecord}
@@ -20,27 +21,18 @@ as-list-record e =
       spare = e .spare;
     }
 
--- the eight bytes from an offset, zeros past the end
-abbrev pub eight-from : List ℕ → ℕ → List ℕ
-eight-from bytes at =
-    getD bytes at 0
-    ∷ getD bytes (at + 1) 0
-    ∷ getD bytes (at + 2) 0
-    ∷ getD bytes (at + 3) 0
-    ∷ getD bytes (at + 4) 0
-    ∷ getD bytes (at + 5) 0
-    ∷ getD bytes (at + 6) 0
-    ∷ getD bytes (at + 7) 0
-    ∷ []
-
--- the list record of a record and the eight bytes that follow it
-abbrev pub list-record-of : rules.Record → List ℕ → rules.ListRecord
-list-record-of own second =
+-- the list record whose bytes start at an offset
+abbrev pub list-record-from : List ℕ → ℕ → rules.ListRecord
+list-record-from bytes at =
     record {
-      own = own;
-      station = getD second 0 0;
-      inside = getD second 1 0;
-      t1 = rules.half second 2;
-      t2 = rules.half second 4;
-      spare = rules.half second 6;
+      own = rules.record-from bytes at;
+      station = getD bytes (at + 8) 0;
+      inside = getD bytes (at + 9) 0;
+      t1 = rules.half bytes (at + 10);
+      t2 = rules.half bytes (at + 12);
+      spare = rules.half bytes (at + 14);
     }
+
+-- the sixteen bytes from an offset, zeros past the end
+abbrev pub sixteen-from : List ℕ → ℕ → List ℕ
+sixteen-from bytes at = values (λ i. getD bytes (at + i) 0) 16

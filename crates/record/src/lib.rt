@@ -1,10 +1,10 @@
 // Records of a written sequence and of a built-in list, decoded from their bytes. Past the end of the bytes everything is zero.
 // `names` has the document's numbers by name.
 ghost use mathlib.Core.Path.{_≡_};
-ghost use Prim.Native.Nat.{_+_, _*_, _≤_};
-ghost use lib.ListN.{length, getD};
+ghost use Prim.Native.Nat.{_+_, _*_, _/_, _≤_};
+ghost use lib.ListN.{length};
 ghost use Rattle.rules.specs.Records.{record-from, record-at, list-record-at};
-ghost use Rattle.record.specs.View.{as-record, as-list-record, eight-from, list-record-of};
+ghost use Rattle.record.specs.View.{as-record, as-list-record, list-record-from, sixteen-from};
 
 mod names;
 
@@ -28,110 +28,97 @@ pub struct ListRecord {
 }
 
 impl Record {
-    // The record that eight bytes spell.
-    fn of(bytes: [u8; 8]) -> Record
-        ensures { λ r. ⌜ as-record r ≡ record-from bytes 0 ⌝ }
-    {
-        Record {
-            kind: bytes[0],
-            a: bytes[1],
-            b: bytes[2],
-            op: bytes[3],
-            k: word(bytes[4], bytes[5], bytes[6], bytes[7]),
-        }
-    }
-
     // Record number i of a written sequence. What lies past the end of the file is zero: the rest of a record that is cut off, and
     // every record after it, however large i is.
     pub fn at(file: &[u8], i: usize) -> Record
         ensures { λ r. ⌜ as-record r ≡ record-at (now (file .entry)) i ⌝ }
     {
-        let whole = file.len() / 8;
-        if i < whole {
-            return Record::of(eight(file, 8 * i));
+        if i < file.len() / 8 {
+            return Record::whole(file, 8 * i);
         }
-        if i == whole {
-            return Record::of(cut(file, 8 * i));
+        Record::cut(file, i)
+    }
+
+    // The record whose bytes start at an offset, all of which are there.
+    fn whole(bytes: &[u8], at: usize) -> Record
+        requires { ⌜ at + 8 ≤ length (now bytes) ⌝ }
+        ensures { λ r. ⌜ as-record r ≡ record-from (now (bytes .entry)) at ⌝ }
+    {
+        Record {
+            kind: bytes[at],
+            a: bytes[at + 1],
+            b: bytes[at + 2],
+            op: bytes[at + 3],
+            k: word(bytes[at + 4], bytes[at + 5], bytes[at + 6], bytes[at + 7]),
         }
-        Record::of([0u8; 8])
+    }
+
+    // Record number i of a file that has no more whole records.
+    fn cut(file: &[u8], i: usize) -> Record
+        requires { ⌜ length (now file) / 8 ≤ i ⌝ }
+        ensures { λ r. ⌜ as-record r ≡ record-at (now (file .entry)) i ⌝ }
+    {
+        let mut at = file.len();
+        if i == file.len() / 8 {
+            at = 8 * i;
+        }
+        let rest = rest_from(file, at);
+        Record::whole(&rest, 0)
     }
 }
 
 impl ListRecord {
-    // The list record of a record and the eight bytes that follow it.
-    fn of(own: Record, second: [u8; 8]) -> ListRecord
-        ensures { λ r. ⌜ as-list-record r ≡ list-record-of (as-record own) second ⌝ }
-    {
-        ListRecord {
-            own,
-            station: second[0],
-            inside: second[1],
-            t1: half(second[2], second[3]),
-            t2: half(second[4], second[5]),
-            spare: half(second[6], second[7]),
-        }
-    }
-
     // Record number p of a built-in list; past the end of the list zero, as in a written sequence.
     pub fn at(list: &[u8], p: usize) -> ListRecord
         ensures { λ r. ⌜ as-list-record r ≡ list-record-at (now (list .entry)) p ⌝ }
     {
-        let whole = list.len() / 16;
-        if p < whole {
-            let at = 16 * p;
-            return ListRecord::of(Record::of(eight(list, at)), eight(list, at + 8));
+        if p < list.len() / 16 {
+            return ListRecord::whole(list, 16 * p);
         }
-        if p == whole {
-            let at = 16 * p;
-            return ListRecord::of(Record::of(cut(list, at)), cut(list, at + 8));
+        ListRecord::cut(list, p)
+    }
+
+    // The list record whose bytes start at an offset, all of which are there.
+    fn whole(bytes: &[u8], at: usize) -> ListRecord
+        requires { ⌜ at + 16 ≤ length (now bytes) ⌝ }
+        ensures { λ r. ⌜ as-list-record r ≡ list-record-from (now (bytes .entry)) at ⌝ }
+    {
+        ListRecord {
+            own: Record::whole(bytes, at),
+            station: bytes[at + 8],
+            inside: bytes[at + 9],
+            t1: half(bytes[at + 10], bytes[at + 11]),
+            t2: half(bytes[at + 12], bytes[at + 13]),
+            spare: half(bytes[at + 14], bytes[at + 15]),
         }
-        ListRecord::of(Record::of([0u8; 8]), [0u8; 8])
+    }
+
+    // Record number p of a list that has no more whole records.
+    fn cut(list: &[u8], p: usize) -> ListRecord
+        requires { ⌜ length (now list) / 16 ≤ p ⌝ }
+        ensures { λ r. ⌜ as-list-record r ≡ list-record-at (now (list .entry)) p ⌝ }
+    {
+        let mut at = list.len();
+        if p == list.len() / 16 {
+            at = 16 * p;
+        }
+        let rest = rest_from(list, at);
+        ListRecord::whole(&rest, 0)
     }
 }
 
-// The eight bytes from an offset, all of which are there.
-fn eight(bytes: &[u8], at: usize) -> [u8; 8]
-    requires { ⌜ at + 8 ≤ length (now bytes) ⌝ }
-    ensures { λ r. ⌜ r ≡ eight-from (now (bytes .entry)) at ⌝ }
+// The sixteen bytes from an offset, zeros where the bytes end before them.
+fn rest_from(bytes: &[u8], at: usize) -> [u8; 16]
+    requires { ⌜ at ≤ length (now bytes) ⌝ }
+    ensures { λ r. ⌜ r ≡ sixteen-from (now (bytes .entry)) at ⌝ }
 {
-    [
-        bytes[at],
-        bytes[at + 1],
-        bytes[at + 2],
-        bytes[at + 3],
-        bytes[at + 4],
-        bytes[at + 5],
-        bytes[at + 6],
-        bytes[at + 7],
-    ]
-}
-
-// The eight bytes from an offset, zeros where the bytes end before them.
-fn cut(bytes: &[u8], at: usize) -> [u8; 8]
-    ensures { λ r. ⌜ r ≡ eight-from (now (bytes .entry)) at ⌝ }
-{
-    [
-        byte(bytes, at, 0),
-        byte(bytes, at, 1),
-        byte(bytes, at, 2),
-        byte(bytes, at, 3),
-        byte(bytes, at, 4),
-        byte(bytes, at, 5),
-        byte(bytes, at, 6),
-        byte(bytes, at, 7),
-    ]
-}
-
-// The byte that stands more bytes after an offset; zero past the end, also where the sum of the two fits no usize.
-fn byte(bytes: &[u8], at: usize, more: usize) -> u8
-    ensures { λ r. ⌜ r ≡ getD (now (bytes .entry)) (at + more) 0 ⌝ }
-{
-    if at < bytes.len() {
-        if more < bytes.len() - at {
-            return bytes[at + more];
-        }
+    let mut rest = [0u8; 16];
+    let mut i: usize = 0;
+    while i < 16 && i < bytes.len() - at {
+        rest[i] = bytes[at + i];
+        i += 1;
     }
-    0
+    rest
 }
 
 // Two bytes, low byte first.
