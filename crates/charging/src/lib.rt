@@ -9,7 +9,8 @@ ghost use Rattle.rules.specs.Names.{max-stations};
 ghost use Rattle.charging.specs.Charge.{lowered, held-charge};
 use record::Record;
 
-// The priorities with the first n, at most eight, charged for a pick, by the readiness of the stations before the step.
+// The priorities with the first n, at most eight, charged for a pick, by the readiness of the stations before the step. The picked station
+// is charged with the others before it gets the reset.
 pub fn charged(
     mut priorities: [i16; 8],
     n: usize,
@@ -19,38 +20,17 @@ pub fn charged(
 ) -> [i16; 8]
     ensures { λ r. ⌜ r ≡ changed (λ j. held-charge (eqb j picked) (getD all j false) reset) (min n max-stations) priorities ⌝ }
 {
-    let count = few(n);
     let mut j: usize = 0;
-    while j < count {
-        let p = priorities[j];
-        let q = one(p, j == picked, all[j], reset);
-        priorities[j] = q;
+    while j < n && j < Record::MAX_STATIONS {
+        if all[j] {
+            priorities[j] = less(priorities[j]);
+        }
         j += 1;
     }
+    if picked < n && picked < Record::MAX_STATIONS {
+        priorities[picked] = reset as i16;
+    }
     priorities
-}
-
-// A number of stations, at most eight.
-fn few(n: usize) -> usize
-    ensures { λ r. ⌜ r ≡ min n max-stations ⌝ }
-{
-    if n < Record::MAX_STATIONS {
-        return n;
-    }
-    Record::MAX_STATIONS
-}
-
-// One station's priority after a step: the reset if it was picked, one less if it was ready, else the same.
-fn one(p: i16, picked: bool, ready: bool, reset: u8) -> i16
-    ensures { λ r. ⌜ r ≡ held-charge picked ready reset p ⌝ }
-{
-    if picked {
-        return reset as i16;
-    }
-    if ready {
-        return less(p);
-    }
-    p
 }
 
 // One less, as far as 16 bits go.

@@ -5,8 +5,9 @@ use Prim.Native.Nat.{ℕ, zero, suc, _+_, _≤_, _<_}
 use native.Mathlib.Nat.{not-suc-le-zero, le-of-suc-le-suc}
 use native.Mathlib.Numerals.{add-one}
 use native.Mathlib.Omega.{arith}
+use lib.Dec.{eqb, eqb·zero-suc, eqb·suc-zero, eqb·suc-suc}
 use lib.ListN.{length, getD, set}
-use Rattle.rules.specs.Words.{changed}
+use Rattle.rules.specs.Words.{if_then_else_, changed}
 
 module _ {A : Type 0} where
   pub length-changed : (f : ℕ → A → A) (n : ℕ) (xs : List A) → length (changed f n xs) ≡ length xs
@@ -65,3 +66,13 @@ module _ {A : Type 0} where
   changed-same f g (suc n) [] d same = refl
   changed-same f g (suc n) (x ∷ xs) d same =
       rw (same 0 (omega arith), changed-same (λ i. f (suc i)) (λ i. g (suc i)) n xs d (λ i l. same (suc i) (omega arith)))
+
+  -- one of the changed entries set afterwards, as if that were its change
+  pub changed-set : (f : ℕ → A → A) (n : ℕ) (xs : List A) (k : ℕ) (x : A) → k < n
+      → set (changed f n xs) k x ≡ changed (λ i y. if eqb i k then x else f i y) n xs
+  unfolding changed
+  changed-set f zero xs k x l = absurd (not-suc-le-zero l)
+  changed-set f (suc n) [] k x l = refl
+  changed-set f (suc n) (y ∷ ys) zero x l = simp eqb·suc-zero
+  changed-set f (suc n) (y ∷ ys) (suc k) x l =
+      simp (eqb·zero-suc, eqb·suc-suc) (ap (λ (rest : List A). f 0 y ∷ rest) (changed-set (λ i. f (suc i)) n ys k x (le-of-suc-le-suc l)))

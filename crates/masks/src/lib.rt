@@ -1,11 +1,11 @@
 // The station masks, gathered from the last station down to station 0: each takes bit 0, and those after it move up. They are of any list
 // and of the parts of any state, of eight stations at most.
 ghost use mathlib.Core.Path.{_≡_};
-ghost use Prim.Native.Nat.{ℕ, _<_, min};
+ghost use Prim.Native.Nat.{ℕ, _<_};
 ghost use mathlib.Core.Bool.{false};
 ghost use lib.ListN.{getD};
 ghost use Rattle.rules.specs.Words.{values};
-ghost use Rattle.rules.specs.Names.{variables, max-stations};
+ghost use Rattle.rules.specs.Names.{variables};
 ghost use Rattle.masks.specs.Masks.{with-bit, with-station, state-of, masks-from, Room};
 use record::ListRecord;
 use record::Record;
@@ -35,7 +35,6 @@ impl Masks {
         ensures { λ r. ⌜ r ≡ masks-from (now (list .entry)) (state-of (now (vars .entry)) positions priorities n) 0 ⌝ }
     {
         let given = n as usize;
-        let count = few(given);
         let all = stations::readiness(list, vars, positions);
         let mut masks = Masks {
             ready: 0,
@@ -45,7 +44,10 @@ impl Masks {
             reads: [0u8; 32],
             writes: [0u8; 32],
         };
-        let mut j = count;
+        let mut j = Record::MAX_STATIONS;
+        if given < j {
+            j = given;
+        }
         while 0 < j {
             j -= 1;
             let e = ListRecord::at(list, positions[j] as usize);
@@ -82,16 +84,6 @@ impl Masks {
             writes: with_bits(writes, written),
         }
     }
-}
-
-// A number of stations, at most eight.
-fn few(n: usize) -> usize
-    ensures { λ r. ⌜ r ≡ min n max-stations ⌝ }
-{
-    if n < Record::MAX_STATIONS {
-        return n;
-    }
-    Record::MAX_STATIONS
 }
 
 // A mask with a station more before its own, whose bit 0 is this.

@@ -11,24 +11,13 @@ ghost use Rattle.rules.specs.Records.{list-record-at, pick-at};
 use record::ListRecord;
 use record::Record;
 
-// A number of stations, at most eight.
-fn few(n: usize) -> usize
-    ensures { λ r. ⌜ r ≡ min n max-stations ⌝ }
-{
-    if n < Record::MAX_STATIONS {
-        return n;
-    }
-    Record::MAX_STATIONS
-}
-
 // Each station's first step, by its INIT; 0 from station n on.
 pub fn first_steps(list: &[u8], n: usize) -> [u16; 8]
     ensures { λ r. ⌜ r ≡ values (λ j. list-record-at (now (list .entry)) j .t1) (min n max-stations) ++ replicate (max-stations - min n max-stations) 0 ⌝ }
 {
-    let count = few(n);
     let mut positions = [0u16; 8];
     let mut j: usize = 0;
-    while j < count {
+    while j < n && j < Record::MAX_STATIONS {
         let e = ListRecord::at(list, j);
         positions[j] = e.t1;
         j += 1;
@@ -50,10 +39,9 @@ fn reset_at(log: &[u8], j: usize) -> u8
 pub fn first_priorities(log: &[u8], n: usize) -> [i16; 8]
     ensures { λ r. ⌜ r ≡ values (λ j. pos (pick-at (now (log .entry)) j .reset)) (min n max-stations) ++ replicate (max-stations - min n max-stations) (pos 0) ⌝ }
 {
-    let count = few(n);
     let mut priorities = [0i16; 8];
     let mut j: usize = 0;
-    while j < count {
+    while j < n && j < Record::MAX_STATIONS {
         priorities[j] = reset_at(log, j) as i16;
         j += 1;
     }

@@ -58,9 +58,10 @@ pub fn readiness(list: &[u8], vars: &[u32; 32], positions: [u16; 8]) -> [bool; 8
 pub fn lowest_of(all: [bool; 8], priorities: [i16; 8], n: usize, i: usize) -> bool
     ensures { λ r. ⌜ r ≡ lowest-of n (λ j. getD all j false) (priority-in priorities) i ⌝ }
 {
+    let own = priority(priorities, i);
     let mut j: usize = 0;
     while j < n {
-        if !yields(ready_in(all, j), priorities, i, j) {
+        if !yields(ready_in(all, j), own, priority(priorities, j)) {
             return false;
         }
         j += 1;
@@ -68,12 +69,12 @@ pub fn lowest_of(all: [bool; 8], priorities: [i16; 8], n: usize, i: usize) -> bo
     true
 }
 
-// Whether station j, ready or not, does not come before station i.
-pub fn yields(ready: bool, priorities: [i16; 8], i: usize, j: usize) -> bool
-    ensures { λ r. ⌜ r ≡ yields-to ready (priority-in priorities i) (priority-in priorities j) ⌝ }
+// Whether a station of priority other, ready or not, does not come before one of priority own.
+fn yields(ready: bool, own: i16, other: i16) -> bool
+    ensures { λ r. ⌜ r ≡ yields-to ready own other ⌝ }
 {
     if ready {
-        return priority(priorities, i) <= priority(priorities, j);
+        return own <= other;
     }
     true
 }

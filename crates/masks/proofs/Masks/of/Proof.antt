@@ -1,6 +1,7 @@
 -- `masks::Masks::of` meets its contract. The loop's invariant: the masks of the stations from j on are gathered. The measure is j.
 -- Assumes nothing.
 use mathlib.Core.Path.{_≡_, refl, ap, _∙_}
+use mathlib.Core.Logic.{⊎-elim}
 use Prim.Native.Nat.{_+_, _-_, _≤_, _<_, min}
 use native.Mathlib.Nat.{min-le-right}
 use native.Mathlib.Omega.{arith}
@@ -15,35 +16,33 @@ use Rattle.masks.proofs.Masks.of.Statement.{statement}
 use Rattle.masks.proofs.Masks.of.Tie as tie
 
 abbrev Inv-loop : tie.InvT-loop
-Inv-loop list vars priorities n positions given count all masks₀ j₀ masks j =
+Inv-loop list vars priorities n positions given all masks₀ j₀ masks j =
     (j ≤ min n max-stations) × (masks ≡ masks-from list (state-of vars positions priorities n) j)
 
 abbrev μ-loop : tie.MeasureT-loop
-μ-loop list vars priorities n positions given count all masks₀ j₀ masks j = j
+μ-loop list vars priorities n positions given all masks₀ j₀ masks j = j
 
 -- the state of the parts given
 abbrev state-at : tie.After-readiness Inv-loop μ-loop → State
 state-at c =
-    let given = c .before .before .before .args in
+    let given = c .before .before .args in
     state-of (given .vars .now) (given .t3) (given .priorities) (given .n)
 
 few : (c : tie.After-readiness Inv-loop μ-loop) → state-at c .n ≤ max-stations
-few c = min-le-right (c .before .before .before .args .n) max-stations
+few c = min-le-right (c .before .before .args .n) max-stations
 
 -- the station reached has its place
 within : (c : tie.In-loop Inv-loop μ-loop) → c .before .loop .j - 1 < max-stations
-within c = omega (arith, c .loop-test .taken, c .before .loop .inv .0, few (c .before .before))
-
-few-requires : tie.Need-few-requires Inv-loop μ-loop
-few-requires c κs = search needs
+within c = omega (arith, c .loop-test .taken, c .before .loop .inv .0, few (c .before .before .before))
 
 readiness-requires : tie.Need-readiness-requires Inv-loop μ-loop
 readiness-requires c κs = search needs
 
 loop-holds : tie.Need-loop-holds Inv-loop μ-loop
 loop-holds c =
-    let counted = c .before in
-    (omega (arith, counted .few .ensures), rw (counted .few .ensures) (gathered-none _ (state-at c)))
+    let s = state-at (c .before) in
+    let all : c .if1 .j ≡ s .n = ⊎-elim (λ w. omega arith) (λ w. omega arith) (c .if1 .came) in
+    (omega arith, rw all (gathered-none _ s))
 
 sub-j : tie.Need-sub-j Inv-loop μ-loop
 sub-j c = search needs
@@ -52,7 +51,7 @@ mul-at : tie.Need-mul-at Inv-loop μ-loop
 mul-at c = search needs
 
 array-read-at : tie.Need-array-read-at Inv-loop μ-loop
-array-read-at c = within c
+array-read-at c = within (c .before)
 
 cast-at : tie.Need-cast-at Inv-loop μ-loop
 cast-at c = search needs
@@ -61,7 +60,7 @@ at-requires : tie.Need-at-requires Inv-loop μ-loop
 at-requires c κs = search needs
 
 array-read-in-turn : tie.Need-array-read-in-turn Inv-loop μ-loop
-array-read-in-turn c = within (c .before)
+array-read-in-turn c = within (c .before .before)
 
 lowest-of-requires : tie.Need-lowest-of-requires Inv-loop μ-loop
 lowest-of-requires c κs = search needs
@@ -73,17 +72,18 @@ ended-at-requires : tie.Need-ended-at-requires Inv-loop μ-loop
 ended-at-requires c κs = search needs
 
 array-read-with-station : tie.Need-array-read-with-station Inv-loop μ-loop
-array-read-with-station c = within (c .before .before .before .before)
+array-read-with-station c = within (c .before .before .before .before .before)
 
 of-requires : tie.Need-of-requires Inv-loop μ-loop
 of-requires c κs = search needs
 
 with-station-requires : tie.Need-with-station-requires Inv-loop μ-loop
 with-station-requires c κs =
-    let turn = c .before .before .before .before .before in
+    let turn = c .before .before .before .before .before .before in
     let at = turn .before in
+    let all = at .before .before in
     let back : at .loop .j - 1 + 1 ≡ at .loop .j = omega (arith, turn .loop-test .taken) in
-    rw (at .loop .inv .1, ← back) (room _ (state-at (at .before)) (at .loop .j - 1) (few (at .before)))
+    rw (at .loop .inv .1, ← back) (room _ (state-at all) (at .loop .j - 1) (few all))
 
 loop-less : tie.Need-loop-less Inv-loop μ-loop
 loop-less c = search needs
@@ -96,10 +96,10 @@ loop-again c =
     let waits = ended .before in
     let low = waits .before in
     let found = low .before in
-    let turn = found .before in
+    let turn = found .before .before in
     let at = turn .before in
-    let all = at .before in
-    let given = all .before .before .before .args in
+    let all = at .before .before in
+    let given = all .before .before .args in
     let list = given .list .now in
     let s = state-at all in
     let j = at .loop .j - 1 in
@@ -124,7 +124,6 @@ of-spec =
     (tie.spec
     Inv-loop
     μ-loop
-    few-requires
     readiness-requires
     loop-holds
     sub-j
