@@ -1,9 +1,9 @@
 // The trace: a case of it is read as those of the calls are, and its line has the length and H of all that is printed.
 use text::Text;
 use tracing::Tracer;
+use vectors::MAX_FIELD;
 use vectors::NONE;
 use vectors::after;
-use vectors::buffer;
 use vectors::field;
 use vectors::line;
 
@@ -12,9 +12,9 @@ pub(crate) const TRACE: u8 = 8;
 
 // A case of the trace: a program, a start file and the picks.
 pub(crate) fn case(file: i32) -> bool {
-    let mut program = buffer();
-    let mut starts = buffer();
-    let mut picks = buffer();
+    let mut program = [0u8; MAX_FIELD];
+    let mut starts = [0u8; MAX_FIELD];
+    let mut picks = [0u8; MAX_FIELD];
     let program = field(file, &mut program);
     let starts = field(file, &mut starts);
     let picks = field(file, &mut picks);

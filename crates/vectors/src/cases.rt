@@ -1,33 +1,77 @@
 // The cases of the seven calls: each reads the call's fields in their order, into buffers that no field is too long for, makes the call by
-// the name that C has for it, and has its answer written. The length of a field that is always as long, as b, a pick and the most-steps
-// number are, is read over.
-use crate::answers;
+// the name that C has for it, and writes its line. The length of a field that is always as long, as b, a pick and the most-steps number
+// are, is read over. What a line cannot hold, a state and a lent buffer afterwards, it has as H.
 use crate::fields::buffer;
 use crate::fields::byte;
 use crate::fields::field;
 use crate::fields::half;
 use crate::fields::long;
+use crate::hash::NONE;
+use crate::hash::after;
+use crate::hash::hash;
+use crate::lines::line;
+use crate::states::hash_state;
 use crate::states::state;
+use run::Outcome;
 
-// A case of check: a program.
-pub(crate) fn check(file: i32) -> bool {
-    let mut program = buffer();
-    let program = field(file, &mut program);
-    answers::check(panel::press_check(program))
+// The calls by their numbers in the stream and in the lines.
+const CHECK: u8 = 1;
+
+const BUILD: u8 = 2;
+
+const START: u8 = 3;
+
+const STEP: u8 = 4;
+
+const RUN: u8 = 5;
+
+const UNDO: u8 = 6;
+
+const LIGHTS: u8 = 7;
+
+// Reads the fields of a call by its number and writes its line. It answers whether to go on: not at a number that none of the seven has, or
+// where the line cannot be written.
+pub fn answer(file: i32, call: u8) -> bool {
+    match call {
+        CHECK => check(file),
+        BUILD => build(file),
+        START => start(file),
+        STEP => step(file),
+        RUN => run(file),
+        UNDO => undo(file),
+        LIGHTS => lights(file),
+        _ => false,
+    }
 }
 
-// A case of build: a program and a buffer.
-pub(crate) fn build(file: i32) -> bool {
+// A case of check: a program. Its line: the number and the place.
+fn check(file: i32) -> bool {
+    let mut program = buffer();
+    let program = field(file, &mut program);
+    let checked = panel::press_check(program);
+    line(CHECK, &[checked.number as u64, checked.place as u64])
+}
+
+// A case of build: a program and a buffer. Its line: the number, the place, the count and the buffer.
+fn build(file: i32) -> bool {
     let mut program = buffer();
     let mut list = buffer();
     let program = field(file, &mut program);
     let list = field(file, &mut list);
     let built = panel::press_build(program, list);
-    answers::build(built, list)
+    line(
+        BUILD,
+        &[
+            built.number as u64,
+            built.place as u64,
+            built.count as u64,
+            hash(list),
+        ],
+    )
 }
 
-// A case of start: a list, b, the resets and a log.
-pub(crate) fn start(file: i32) -> bool {
+// A case of start: a list, b, the resets and a log. Its line: that of an outcome.
+fn start(file: i32) -> bool {
     let mut list = buffer();
     let mut resets = buffer();
     let mut log = buffer();
@@ -37,11 +81,11 @@ pub(crate) fn start(file: i32) -> bool {
     let resets = field(file, &mut resets);
     let log = field(file, &mut log);
     let started = panel::press_start(list, b, resets, log);
-    answers::outcome(answers::START, started, log)
+    outcome(START, started, log)
 }
 
-// A case of step: a list, a state, a log and a pick.
-pub(crate) fn step(file: i32) -> bool {
+// A case of step: a list, a state, a log and a pick. Its line: that of an outcome.
+fn step(file: i32) -> bool {
     let mut list = buffer();
     let mut log = buffer();
     let list = field(file, &mut list);
@@ -51,11 +95,11 @@ pub(crate) fn step(file: i32) -> bool {
     let station = byte(file);
     let reset = byte(file);
     let stepped = panel::press_step(given, list, log, station, reset);
-    answers::outcome(answers::STEP, stepped, log)
+    outcome(STEP, stepped, log)
 }
 
-// A case of run: a list, a state, a log, the picks and the most-steps number.
-pub(crate) fn run(file: i32) -> bool {
+// A case of run: a list, a state, a log, the picks and the most-steps number. Its line: the number, the steps taken, the state and the log.
+fn run(file: i32) -> bool {
     let mut list = buffer();
     let mut log = buffer();
     let mut picks = buffer();
@@ -66,23 +110,57 @@ pub(crate) fn run(file: i32) -> bool {
     half(file);
     let most = long(file);
     let ran = panel::press_run(given, list, log, picks, most as usize);
-    answers::run(ran, log)
+    let reached = ran.state;
+    line(
+        RUN,
+        &[
+            ran.number as u64,
+            ran.steps as u64,
+            hash_state(reached),
+            hash(log),
+        ],
+    )
 }
 
-// A case of undo: a list, a state and a log.
-pub(crate) fn undo(file: i32) -> bool {
+// A case of undo: a list, a state and a log. Its line: the number and the state.
+fn undo(file: i32) -> bool {
     let mut list = buffer();
     let mut log = buffer();
     let list = field(file, &mut list);
     let given = state(file);
     let log = field(file, &mut log);
-    answers::undo(panel::press_undo(given, list, log))
+    let undone = panel::press_undo(given, list, log);
+    let reached = undone.state;
+    line(UNDO, &[undone.number as u64, hash_state(reached)])
 }
 
-// A case of lights: a list and a state.
-pub(crate) fn lights(file: i32) -> bool {
+// A case of lights: a list and a state. Its line: the number, the four masks, and the two rows together.
+fn lights(file: i32) -> bool {
     let mut list = buffer();
     let list = field(file, &mut list);
     let given = state(file);
-    answers::lights(panel::press_lights(given, list))
+    let lit = panel::press_lights(given, list);
+    let rows = lit.rows();
+    line(
+        LIGHTS,
+        &[
+            lit.number as u64,
+            lit.ready as u64,
+            lit.in_turn as u64,
+            lit.waiting as u64,
+            lit.ended as u64,
+            hash_rows(rows[0], rows[1]),
+        ],
+    )
+}
+
+// The line of a start and of a step: the number, the state and the log.
+fn outcome(call: u8, outcome: Outcome, log: &[u8]) -> bool {
+    let state = outcome.state;
+    line(call, &[outcome.number as u64, hash_state(state), hash(log)])
+}
+
+// H of the two rows of the lights together.
+fn hash_rows(reads: [u8; 32], writes: [u8; 32]) -> u64 {
+    after(after(NONE, &reads), &writes) as u64
 }

@@ -1,10 +1,10 @@
 // The fields of a case: each is a length of two bytes and so many bytes. A number has its low byte first, and is 0 past the stream's end.
 
 // Bytes of a field, at most: what a length of two bytes can say.
-const MAX_FIELD: usize = 65535;
+pub const MAX_FIELD: usize = 65535;
 
-// A buffer for a field.
-pub fn buffer() -> [u8; MAX_FIELD] {
+// A buffer for a field. It is a function, since a literal of so many bytes costs the check more wherever one is lent.
+pub(crate) fn buffer() -> [u8; MAX_FIELD] {
     [0; MAX_FIELD]
 }
 

@@ -1,4 +1,6 @@
 // H, which stands in a line for bytes that are too many: 7 at first, and after each byte b it becomes h * 31 + b + 1 mod 2^32.
+ghost use mathlib.Core.Path.{_≡_};
+ghost use Rattle.vectors.specs.Hash.{after, after-byte};
 
 // H of no bytes.
 pub const NONE: u32 = 7;
@@ -8,13 +10,10 @@ pub(crate) fn hash(bytes: &[u8]) -> u64 {
     after(NONE, bytes) as u64
 }
 
-// H after a row of the lights.
-pub(crate) fn after_row(h: u32, row: [u8; 32]) -> u32 {
-    after(h, &row)
-}
-
 // H after some bytes.
-pub fn after(h: u32, bytes: &[u8]) -> u32 {
+pub fn after(h: u32, bytes: &[u8]) -> u32
+    ensures { λ r. ⌜ r ≡ after h (now (bytes .entry)) ⌝ }
+{
     let mut sum = h;
     let mut i: usize = 0;
     while i < bytes.len() {
@@ -35,6 +34,8 @@ pub(crate) fn after_half(h: u32, x: u16) -> u32 {
 }
 
 // H after one byte.
-pub(crate) fn after_byte(h: u32, byte: u8) -> u32 {
-    ((31 * (h as u64) + (byte as u64) + 1) % 4294967296) as u32
+pub(crate) fn after_byte(h: u32, byte: u8) -> u32
+    ensures { λ r. ⌜ r ≡ after-byte h byte ⌝ }
+{
+    (((h as u64) * 31 + (byte as u64) + 1) % 4294967296) as u32
 }

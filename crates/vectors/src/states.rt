@@ -1,96 +1,69 @@
 // A state as 164 bytes, low bytes first: 32 variables of 4, 8 positions of 2, 8 priorities of 2 in two's complement, n, b, and m of 2.
-use crate::fields;
-use crate::hash;
+use crate::fields::byte;
+use crate::fields::half;
+use crate::fields::word;
+use crate::hash::NONE;
+use crate::hash::after_byte;
+use crate::hash::after_half;
+use crate::hash::after_word;
 use run::State;
+
+// The numbers before n are counted from the first variable on: the first position is number 32, the first priority 40, and there are 48.
+const POSITIONS: usize = 32;
+
+const PRIORITIES: usize = 40;
+
+const NUMBERS: usize = 48;
 
 // Reads a field that is a state; its length, which is always 164, is read over.
 pub(crate) fn state(file: i32) -> State {
-    fields::half(file);
-    State {
-        vars: vars(file),
-        positions: positions(file),
-        priorities: priorities(file),
-        n: fields::byte(file),
-        b: fields::byte(file),
-        m: fields::half(file),
+    half(file);
+    let mut state = State::zeros();
+    let mut i: usize = 0;
+    while i < NUMBERS {
+        state = with_number(file, state, i);
+        i += 1;
     }
+    state.n = byte(file);
+    state.b = byte(file);
+    state.m = half(file);
+    state
 }
 
 // H of a state's bytes.
 pub(crate) fn hash_state(state: State) -> u64 {
-    let vars = state.vars;
-    let positions = state.positions;
-    let priorities = state.priorities;
-    let placed = after_positions(after_vars(hash::NONE, vars), positions);
-    let ranked = after_priorities(placed, priorities);
-    let counted = hash::after_byte(hash::after_byte(ranked, state.n), state.b);
-    hash::after_half(counted, state.m) as u64
-}
-
-// Reads the variables.
-fn vars(file: i32) -> [u32; 32] {
-    let mut vars = [0u32; 32];
+    let mut h = NONE;
     let mut i: usize = 0;
-    while i < 32 {
-        vars[i] = fields::word(file);
+    while i < NUMBERS {
+        h = after_number(h, state, i);
         i += 1;
     }
-    vars
+    after_half(after_byte(after_byte(h, state.n), state.b), state.m) as u64
 }
 
-// Reads the positions.
-fn positions(file: i32) -> [u16; 8] {
-    let mut positions = [0u16; 8];
-    let mut i: usize = 0;
-    while i < 8 {
-        positions[i] = fields::half(file);
-        i += 1;
+// Reads number i of a state into it.
+fn with_number(file: i32, mut state: State, i: usize) -> State {
+    if i < POSITIONS {
+        state.vars[i] = word(file);
+    } else if i < PRIORITIES {
+        state.positions[i - POSITIONS] = half(file);
+    } else if i < NUMBERS {
+        state.priorities[i - PRIORITIES] = signed(half(file));
     }
-    positions
+    state
 }
 
-// Reads the priorities.
-fn priorities(file: i32) -> [i16; 8] {
-    let mut priorities = [0i16; 8];
-    let mut i: usize = 0;
-    while i < 8 {
-        priorities[i] = signed(fields::half(file));
-        i += 1;
+// H after number i of a state.
+fn after_number(h: u32, state: State, i: usize) -> u32 {
+    if i < POSITIONS {
+        after_word(h, state.vars[i])
+    } else if i < PRIORITIES {
+        after_half(h, state.positions[i - POSITIONS])
+    } else if i < NUMBERS {
+        after_half(h, unsigned(state.priorities[i - PRIORITIES]))
+    } else {
+        h
     }
-    priorities
-}
-
-// H after the variables.
-fn after_vars(h: u32, vars: [u32; 32]) -> u32 {
-    let mut sum = h;
-    let mut i: usize = 0;
-    while i < 32 {
-        sum = hash::after_word(sum, vars[i]);
-        i += 1;
-    }
-    sum
-}
-
-// H after the positions.
-fn after_positions(h: u32, positions: [u16; 8]) -> u32 {
-    let mut sum = h;
-    let mut i: usize = 0;
-    while i < 8 {
-        sum = hash::after_half(sum, positions[i]);
-        i += 1;
-    }
-    sum
-}
-
-// H after the priorities.
-fn after_priorities(h: u32, priorities: [i16; 8]) -> u32 {
-    let mut sum = h;
-    let mut i: usize = 0;
-    while i < 8 {
-        sum = hash::after_half(sum, unsigned(priorities[i]));
-        i += 1;
-    }
-    sum
 }
 
 // The number that a half's bits are in two's complement.
