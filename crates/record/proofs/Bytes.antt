@@ -1,5 +1,6 @@
 -- A record that is cut off, and one past the end, are decoded from sixteen bytes that stand for those there. Assumes nothing.
-use mathlib.Core.Path.{_≡_, sym, _∙_}
+use mathlib.Core.Path.{_≡_, sym, ap, _∙_}
+use mathlib.Core.Logic.{_⊎_, ⊎-elim}
 use mathlib.Core.List.{List}
 use Prim.Native.Nat.{ℕ, _+_, _≤_}
 use native.Mathlib.Nat.{add-assoc, add-zero}
@@ -24,9 +25,10 @@ unfolding values
 zeros-past bytes at h =
     let later : (j : ℕ) → getD bytes (at + j) 0 ≡ 0 = λ j. List·getD-eq-default bytes 0 (omega arith) in simp later
 
--- so that it does not matter how far
-pub past : (bytes : List ℕ) (a b : ℕ) → length bytes ≤ a → length bytes ≤ b → sixteen-from bytes a ≡ sixteen-from bytes b
-past bytes a b h k = zeros-past bytes a h ∙ sym (zeros-past bytes b k)
+-- so that from an offset on stands what stands at a place that it is, or that lies past the end as it does
+pub stands : (bytes : List ℕ) (at place : ℕ) → (at ≡ place) ⊎ ((at ≡ length bytes) × (length bytes ≤ place)) → sixteen-from bytes at ≡ sixteen-from bytes place
+stands bytes at place =
+    ⊎-elim (ap (sixteen-from bytes)) (λ (ends : (at ≡ length bytes) × (length bytes ≤ place)). zeros-past bytes at (omega (arith, ends .0)) ∙ sym (zeros-past bytes place (ends .1)))
 
 -- and a record there is zeros
 pub none-past : (bytes : List ℕ) (at : ℕ) → length bytes ≤ at

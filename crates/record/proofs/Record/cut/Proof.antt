@@ -1,34 +1,19 @@
 -- `record::Record::cut` meets its contract: the bytes that it reads stand for those of the record, also where the place lies past them all.
 -- Assumes nothing.
-use Prim.Native.Nat.{_*_, _≤_}
-use mathlib.Core.Path.{_≡_, ap, _∙_}
-use mathlib.Core.Logic.{⊎-elim}
+use Prim.Native.Nat.{_*_}
+use mathlib.Core.Path.{_∙_}
+use mathlib.Core.Logic.{inl, inr, ⊎-elim}
 use native.Mathlib.Omega.{arith}
-use lib.ListN.{length}
 use borrow.Author.Needs.{needs}
-use Rattle.record.specs.View.{sixteen-from}
-use Rattle.record.proofs.Bytes.{past, spelled}
+use Rattle.record.proofs.Bytes.{stands, spelled}
 use Rattle.record.proofs.Record.cut.Statement.{statement}
 use Rattle.record.proofs.Record.cut.Tie as tie
-
--- the offset lies in the bytes
-within : (c : tie.Joined1) → c .if1 .at ≤ length (c .before .before .args .file .now)
-within c = ⊎-elim (λ w. omega (arith, w .1)) (λ w. omega (arith, w .1)) (c .if1 .came)
-
--- and from there on stands what stands at the place
-there : (c : tie.Joined1) → let a = c .before .before .args in sixteen-from (a .file .now) (c .if1 .at) ≡ sixteen-from (a .file .now) (8 * a .i)
-there c =
-    let a = c .before .before .args in
-    let bytes = a .file .now in
-    ⊎-elim (λ w. ap (sixteen-from bytes) (w .1))
-    (λ w. past bytes (c .if1 .at) (8 * a .i) (omega (arith, w .1)) (omega (arith, w .0 .left)))
-    (c .if1 .came)
 
 mul-at : tie.Need-mul-at
 mul-at c = search needs
 
 rest-from-requires : tie.Need-rest-from-requires
-rest-from-requires c κs = within c
+rest-from-requires c κs = ⊎-elim (λ w. omega (arith, w .1)) (λ w. omega (arith, w .1)) (c .if1 .came)
 
 slice-aggregate-whole : tie.Need-slice-aggregate-whole
 slice-aggregate-whole c = search needs
@@ -39,8 +24,11 @@ whole-requires c κs = search needs
 returns : tie.Need-returns
 returns c =
     let rest = c .before .before in
+    let at = rest .before .if1 in
     let a = rest .before .before .before .args in
-    rw (rest .rest-from .ensures, there (rest .before)) at (c .whole .ensures) ∙ spelled (a .file .now) (8 * a .i)
+    let there = stands (a .file .now) (at .at) (8 * a .i)
+    (⊎-elim (λ w. inl (w .1)) (λ w. inr (w .1, omega (arith, w .0 .left))) (at .came)) in
+    rw (rest .rest-from .ensures, there) at (c .whole .ensures) ∙ spelled (a .file .now) (8 * a .i)
 
 pub cut-spec : {M : Type 1} → statement M
 cut-spec = tie.close (tie.spec mul-at rest-from-requires slice-aggregate-whole whole-requires returns)
