@@ -1,8 +1,9 @@
 /*
  * Times the panel's library against the independent program, on the same inputs and in one run, and prints three tables:
- * the time of each call and the ratio of the two, the deepest stack of each of the library's calls, and how the
- * library's time grows where an input doubles. It ends with which of the aims are met, and with status 0 whether or not
- * they are; with status 1 where an answer is not the expected one or differs between the two, which is timing nothing.
+ * the time of each call and the ratio of the two, the deepest stack of each of the library's calls and how much of it
+ * is the caller's, and how the library's time grows where an input doubles. It ends with which of the aims are met, and
+ * with status 0 whether or not they are; with status 1 where an answer is not the expected one or differs between the
+ * two, which is timing nothing.
  *
  *   bench
  *
@@ -346,29 +347,47 @@ static uint8_t our_log[PRESS_LOG_BYTES], their_log[PRESS_LOG_BYTES];
 typedef void our_call(const struct input *in, union our_answer *r);
 typedef void their_call(const struct input *in, union their_answer *r);
 
-static void our_check(const struct input *in, union our_answer *r)
-{
-    r->checked = press_check(in->file, in->file_len);
-}
+/* Functions of the types of the library's that do nothing, and that the compiler may not see through. */
+#pragma GCC diagnostic push
+#pragma GCC diagnostic ignored "-Wunused-parameter"
+#define IDLE(answer, call, ...)                                                                                        \
+    static __typeof__(press_##call) idle_##call;                                                                       \
+    __attribute__((noipa, noinline)) static answer idle_##call(__VA_ARGS__)                                            \
+    {                                                                                                                  \
+        return (answer){0};                                                                                            \
+    }
+IDLE(press_checked, check, const uint8_t *file, size_t file_len)
+IDLE(press_built, build, const uint8_t *file, size_t file_len, uint8_t *list, size_t list_len)
+IDLE(press_outcome, start, const uint8_t *list, size_t list_len, uint8_t b, const uint8_t *given, size_t given_len,
+     uint8_t *log, size_t log_len)
+IDLE(press_outcome, step, press_state state, const uint8_t *list, size_t list_len, uint8_t *log, size_t log_len,
+     uint8_t station, uint8_t reset)
+IDLE(uint8_t, advance, press_state *state, const uint8_t *list, size_t list_len, uint8_t *log, size_t log_len,
+     uint8_t station, uint8_t reset)
+IDLE(press_ran, run, press_state state, const uint8_t *list, size_t list_len, uint8_t *log, size_t log_len,
+     const uint8_t *picks, size_t picks_len, size_t most)
+IDLE(press_outcome, undo, press_state state, const uint8_t *list, size_t list_len, const uint8_t *log, size_t log_len)
+IDLE(press_lit, lights, press_state state, const uint8_t *list, size_t list_len)
+#pragma GCC diagnostic pop
+
+/* Our calls, which are timed and counted; and those of the idle functions, which take the caller's stack alone. */
+#define CALLER(call) our_##call
+#define CALLEE(call) press_##call
+#include "callers.h"
+#undef CALLER
+#undef CALLEE
+#define CALLER(call) bare_##call
+#define CALLEE(call) idle_##call
+#include "callers.h"
 
 static void their_check(const struct input *in, union their_answer *r)
 {
     r->checked = ind_check(in->file, in->file_len);
 }
 
-static void our_build(const struct input *in, union our_answer *r)
-{
-    r->built = press_build(in->file, in->file_len, our_list, sizeof our_list);
-}
-
 static void their_build(const struct input *in, union their_answer *r)
 {
     r->built = ind_build(in->file, in->file_len, their_list, sizeof their_list);
-}
-
-static void our_start(const struct input *in, union our_answer *r)
-{
-    r->started = press_start(in->list, in->list_len, MOST_RESET, resets, in->state.n, our_log, sizeof our_log);
 }
 
 static void their_start(const struct input *in, union their_answer *r)
@@ -377,28 +396,9 @@ static void their_start(const struct input *in, union their_answer *r)
 }
 
 /* A step takes the first pick. */
-static void our_step(const struct input *in, union our_answer *r)
-{
-    r->stepped = press_step(in->our_state, in->list, in->list_len, our_log, sizeof our_log, in->picks[0], in->picks[1]);
-}
-
 static void their_step(const struct input *in, union their_answer *r)
 {
     r->state = ind_step(in->list, in->list_len, in->state, their_log, sizeof their_log, in->picks[0], in->picks[1]);
-}
-
-/* The state lent is put back before each call. */
-static void our_advance(const struct input *in, union our_answer *r)
-{
-    r->stepped.state = in->our_state;
-    r->stepped.number = press_advance(&r->stepped.state, in->list, in->list_len, our_log, sizeof our_log, in->picks[0],
-                                      in->picks[1]);
-}
-
-static void our_run(const struct input *in, union our_answer *r)
-{
-    r->ran = press_run(in->our_state, in->list, in->list_len, our_log, sizeof our_log, in->picks, in->picks_len,
-                       SIZE_MAX);
 }
 
 static void their_run(const struct input *in, union their_answer *r)
@@ -406,19 +406,9 @@ static void their_run(const struct input *in, union their_answer *r)
     r->ran = ind_run(in->list, in->list_len, in->state, their_log, sizeof their_log, in->picks, in->picks_len, SIZE_MAX);
 }
 
-static void our_undo(const struct input *in, union our_answer *r)
-{
-    r->undone = press_undo(in->our_state, in->list, in->list_len, in->log, sizeof in->log);
-}
-
 static void their_undo(const struct input *in, union their_answer *r)
 {
     r->state = ind_undo(in->list, in->list_len, in->state, in->log, sizeof in->log);
-}
-
-static void our_lights(const struct input *in, union our_answer *r)
-{
-    r->lit = press_lights(in->our_state, in->list, in->list_len);
 }
 
 static void their_lights(const struct input *in, union their_answer *r)
@@ -426,8 +416,6 @@ static void their_lights(const struct input *in, union their_answer *r)
     r->lit = ind_lights(in->list, in->list_len, in->state);
 }
 
-static our_call *const our_calls[CALLS] = {our_check, our_build, our_start, our_step,
-                                           our_advance, our_run, our_undo, our_lights};
 static their_call *const their_calls[CALLS] = {their_check, their_build, their_start, their_step,
                                                their_step, their_run, their_undo, their_lights};
 
@@ -569,20 +557,21 @@ static struct {
     uint8_t *top;
 } deep;
 
-/* Makes the call; all that it uses lies below this frame. */
+/* Makes the call; all that it uses lies below this frame, with its return address. */
 static void on_stack(void)
 {
     static union our_answer r;
     deep.top = __builtin_frame_address(0);
     deep.made(deep.in, &r);
+    __asm__ volatile(""); /* a call and not a jump: this frame stays above it */
 }
 
 /* The bytes of stack that a call overwrites, with its arguments and its return address: the stack is painted before. */
-static size_t stack_of(enum call call, const struct input *in)
+static size_t stack_of(our_call *made, const struct input *in)
 {
     size_t low = 0;
     memset(stack, PAINT, sizeof stack);
-    deep.made = our_calls[call];
+    deep.made = made;
     deep.in = in;
     getcontext(&there);
     there.uc_stack.ss_sp = stack;
@@ -636,13 +625,16 @@ static void make_run_subjects(void)
     const struct input *small = dryer(), *few = with_picks(long_list(516), 1);
     const struct input *all = with_picks(long_list(IND_MAX_ITEMS), IND_MAX_STEPS);
     const struct input *fewer_picks = with_picks(long_list(IND_MAX_ITEMS), IND_MAX_STEPS / 2);
+    /* Each station stands at an AWAIT that holds, so that a step runs a body. */
     const struct input *bodies = with_picks(await_loops(100), IND_MAX_STEPS);
     const struct input *short_bodies = with_picks(await_loops(50), IND_MAX_STEPS);
     subject(START, "list of 1,032 records", 0, all, few, "records of the list");
     subject(STEP, "list of 7 records", 0, small, NULL, "");
     subject(STEP, "list of 1,032 records", 0, all, few, "records of the list");
+    subject(STEP, "AWAIT of 100 records", 0, bodies, short_bodies, "records of a body");
     subject(ADVANCE, "list of 7 records", 0, small, NULL, "");
     subject(ADVANCE, "list of 1,032 records", 0, all, few, "records of the list");
+    subject(ADVANCE, "AWAIT of 100 records", 0, bodies, short_bodies, "records of a body");
     subject(RUN, "4,096 picks, list of 1,032 records", 0, all, fewer_picks, "picks");
     subject(RUN, "4,096 picks, AWAITs of 100 records", 0, bodies, short_bodies, "records of a body");
     subject(UNDO, "4,096 steps, list of 1,032 records", 0, after_picks(all), after_picks(fewer_picks), "standing steps");
@@ -670,23 +662,28 @@ static double show_ratios(void)
     return worst;
 }
 
-/* The second table: of each call the input that takes most stack. Answers the deepest. */
+/*
+ * The second table: of each call the input that takes most stack, and what the same call of an idle function takes.
+ * Answers the deepest.
+ */
 static size_t show_stacks(void)
 {
     size_t deepest = 0;
-    printf("\nStack: the deepest of each of our calls, with its arguments and its return address.\n\n");
-    printf("%-8s %-36s %11s\n", "call", "on", "bytes");
+    printf("\nStack: the deepest of each of our calls, and of those bytes the caller's, which are its frame, the\n"
+           "arguments and the place for the answer where they are on the stack, and the return address.\n\n");
+    printf("%-8s %-36s %11s %11s\n", "call", "on", "bytes", "caller's");
     for (enum call call = CHECK; call < CALLS; call++) {
         const struct subject *at = NULL;
         size_t most = 0;
         for (const struct subject *s = subjects; s < subjects + subject_count; s++) {
-            const size_t bytes = s->call == call ? stack_of(call, s->whole) : 0;
+            const size_t bytes = s->call == call ? stack_of(our_calls[call], s->whole) : 0;
             if (bytes > most) {
                 most = bytes;
                 at = s;
             }
         }
-        printf("%-8s %-36s %11zu\n", call_names[call], at ? at->name : "", most);
+        printf("%-8s %-36s %11zu %11zu\n", call_names[call], at ? at->name : "", most,
+               at ? stack_of(bare_calls[call], at->whole) : 0);
         deepest = most > deepest ? most : deepest;
     }
     return deepest;

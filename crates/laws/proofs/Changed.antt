@@ -67,6 +67,26 @@ module _ {A : Type 0} where
   changed-same f g (suc n) (x ∷ xs) d same =
       rw (same 0 (omega arith), changed-same (λ i. f (suc i)) (λ i. g (suc i)) n xs d (λ i l. same (suc i) (omega arith)))
 
+  -- the entries from n on need not be asked about where they would stay
+  pub changed-fewer : (f g : ℕ → A → A) (n k : ℕ) (xs : List A) (d : A) → n ≤ k
+      → ((i : ℕ) → i < n → f i (getD xs i d) ≡ g i (getD xs i d)) → ((i : ℕ) (x : A) → n ≤ i → f i x ≡ x)
+      → changed f k xs ≡ changed g n xs
+  unfolding changed
+  changed-fewer f g zero zero xs d few same stay = refl
+  changed-fewer f g zero (suc k) [] d few same stay = refl
+  changed-fewer f g zero (suc k) (x ∷ xs) d few same stay =
+      rw (
+        stay 0 x (omega arith),
+        changed-fewer (λ i. f (suc i)) g zero k xs d (omega arith) (λ i l. absurd (not-suc-le-zero l)) (λ i y l. stay (suc i) y (omega arith)),
+      )
+  changed-fewer f g (suc n) zero xs d few same stay = absurd (not-suc-le-zero few)
+  changed-fewer f g (suc n) (suc k) [] d few same stay = refl
+  changed-fewer f g (suc n) (suc k) (x ∷ xs) d few same stay =
+      rw (
+        same 0 (omega arith),
+        changed-fewer (λ i. f (suc i)) (λ i. g (suc i)) n k xs d (omega arith) (λ i l. same (suc i) (omega arith)) (λ i y l. stay (suc i) y (omega arith)),
+      )
+
   -- one of the changed entries set afterwards, as if that were its change
   pub changed-set : (f : ℕ → A → A) (n : ℕ) (xs : List A) (k : ℕ) (x : A) → k < n
       → set (changed f n xs) k x ≡ changed (λ i y. if eqb i k then x else f i y) n xs

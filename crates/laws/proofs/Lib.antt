@@ -14,3 +14,5 @@ pub mod Sound
 pub mod Passed
 pub mod Answers
 pub mod Kind
+pub mod Named
+pub mod Narrow

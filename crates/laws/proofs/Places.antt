@@ -1,10 +1,11 @@
 -- Tests at the places 0 to n-1: what `each`, `first`, `tally` and `values` say of a single place, and of one place more at the end,
 -- which is what a loop needs. Assumes nothing.
 use mathlib.Core.Path.{_≡_, refl, ap}
-use mathlib.Core.Bool.{Bool, true, false}
+use mathlib.Core.Bool.{Bool, true, false, _&&_}
 use mathlib.Core.List.{List, [], _∷_, _++_}
 use Prim.Native.Nat.{ℕ, zero, suc, _+_, _-_, _≤_, _<_, zero-le}
 use native.Mathlib.Nat.{not-suc-le-zero, le-of-suc-le-suc}
+use native.Mathlib.Numerals.{add-one}
 use native.Mathlib.Omega.{arith}
 use lib.ListN.{length, getD}
 use Rattle.rules.specs.Words.{if_then_else_, each, first, tally, values}
@@ -41,6 +42,15 @@ pub each-same : (f g : ℕ → Bool) (n : ℕ) → ((i : ℕ) → i < n → f i 
 unfolding each
 each-same f g zero h = refl
 each-same f g (suc n) h = rw (h 0 (omega arith), each-same (λ k. f (suc k)) (λ k. g (suc k)) n (λ i l. h (suc i) (omega arith)))
+
+-- one place more at the end, which passes
+each-suc : (f : ℕ → Bool) (n : ℕ) → f n ≡ true → each f (suc n) ≡ each f n
+unfolding each
+each-suc f zero e = rw e
+each-suc f (suc n) e = ap (λ (rest : Bool). f 0 && rest) (each-suc (λ k. f (suc k)) n e)
+
+pub each-more : (f : ℕ → Bool) (n : ℕ) → f n ≡ true → each f (n + 1) ≡ each f n
+each-more f n e = rw add-one (each-suc f n e)
 
 -- the first place at which the test holds: it is i where the test holds at i and at none below
 pub first-is : (f : ℕ → Bool) (n i : ℕ) → i < n → f i ≡ true → ((k : ℕ) → k < i → f k ≡ false) → first f n ≡ i

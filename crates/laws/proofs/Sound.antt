@@ -3,16 +3,17 @@ use mathlib.Core.Path.{_≡_}
 use mathlib.Core.Logic.{_↔_, _⊎_, inl, inr}
 use mathlib.Core.Bool.{Bool, true, and-false}
 use mathlib.Core.List.{List}
-use Prim.Native.Nat.{ℕ, suc, _+_, _-_, _≤_, _<_}
+use Prim.Native.Nat.{ℕ, suc, _+_, _*_, _-_, _%_, _≤_, _<_}
 use native.Mathlib.Omega.{arith}
 use borrow.Author.Tests.{leb-true, le-leb, ltb-true, eqb-true, eq-eqb}
 use lib.Dec.{eqb, leb, ltb}
+use lib.ListN.{length}
 use lib.IntN.{pos}
 use lib.Signed.{leZ}
 use Rattle.rules.specs.Words.{each}
 use Rattle.rules.specs.Names.{IF, max-list, max-stations, max-steps}
 use Rattle.rules.specs.Records.{list-record-at, list-count}
-use Rattle.rules.specs.List.{stations, later, is-at, outside, inside, init-right, later-right, sound-list}
+use Rattle.rules.specs.List.{stations, initials, later, is-at, outside, inside, init-right, initial-right, later-right, sound-list}
 use Rattle.rules.specs.List.{inside-target, outside-targets, inside-targets}
 use Rattle.rules.specs.State.{State, position, priority, few-low, empty-at, sound-state}
 use Rattle.laws.specs.Passed.{Known}
@@ -59,6 +60,10 @@ pub record Inside (list : List ℕ) (station p : ℕ) : Type 0 where
   pub by-t2 : Onward list station p (list-record-at list p .t2)
 
 module _ (list : List ℕ) (sound : sound-list list ≡ true) where
+  pub whole : 16 * list-count list ≡ length list
+  unfolding sound-list
+  whole = omega (arith, eqb-true (length list % 16) 0 (surely (eqb (length list % 16) 0) (λ e. simp e at sound)))
+
   pub short : list-count list ≤ max-list
   unfolding sound-list
   short = leb-true (list-count list) max-list (surely (leb (list-count list) max-list) (λ e. simp (e, and-false) at sound))
@@ -75,6 +80,13 @@ module _ (list : List ℕ) (sound : sound-list list ≡ true) where
   unfolding sound-list
   inits-right =
       each-at (init-right list (later list)) (stations list) (surely (each (init-right list (later list)) (stations list)) (λ e. simp (e, and-false) at sound))
+
+  pub initials-right : (p : ℕ) → stations list ≤ p → p < later list → initial-right list p ≡ true
+  unfolding sound-list
+  initials-right p above below =
+      let test : ℕ → Bool = λ i. initial-right list (stations list + i) in
+      let back : stations list + (p - stations list) ≡ p = omega arith in
+      rw back at (each-at test (initials list) (surely (each test (initials list)) (λ e. simp (e, and-false) at sound)) (p - stations list) (omega arith))
 
   pub laters-right : (p : ℕ) → later list ≤ p → p < list-count list → later-right list (stations list) (later list) p ≡ true
   unfolding sound-list

@@ -1,2 +1,3 @@
 pub mod Passed
 pub mod Number
+pub mod Narrow

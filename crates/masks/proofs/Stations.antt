@@ -79,14 +79,14 @@ module _ (list : List ℕ) (s : State) where
       )
 
   -- one station more: whether it is ready and in turn, of the readiness that was worked out
-  pub turn-known : {all : List Bool} {j : ℕ} {low : Bool} (n : ℕ)
+  pub turn-known : {all : List Bool} {j : ℕ} {turn : Bool} (n : ℕ)
       → all ≡ values (λ i. ready-at (s .vars) (next-step list s i)) max-stations → s .n ≤ max-stations → j < s .n
-      → min n max-stations ≡ s .n → low ≡ lowest-of n (λ i. getD all i false) (priority s) j
-      → (getD all j false ≡ ready list s j) × ((getD all j false && low) ≡ in-turn list s j)
-  turn-known {j = j} n all few station count low =
+      → min n max-stations ≡ s .n → turn ≡ (getD all j false && lowest-of n (λ i. getD all i false) (priority s) j)
+      → (getD all j false ≡ ready list s j) × (turn ≡ in-turn list s j)
+  turn-known {j = j} n all few station count turn =
       let known = readied list s all in
       let here = ready-known list s known few j station in
-      (here, rw (here, low ∙ lowest-few (ready list s) n (priority s) j known, count, lowest-known list s known few j))
+      (here, rw (turn, here, lowest-few (ready list s) n (priority s) j known, count, lowest-known list s known few j))
 
   row-more : (does : ℕ → Record → Bool) (j : ℕ) → j < s .n
       → row-with (values (λ v. by-step (does v) j) variables) (row-from does list s (j + 1)) ≡ row-from does list s j

@@ -51,7 +51,7 @@ impl Masks {
         while 0 < j {
             j -= 1;
             let e = ListRecord::at(list, positions[j] as usize);
-            let in_turn = all[j] & stations::lowest_of(all, priorities, given, j);
+            let in_turn = all[j] && stations::lowest_of(all, priorities, given, j);
             let waiting = stations::waiting_at(vars, e);
             let ended = stations::ended_at(e);
             masks = masks.with_station(all[j], in_turn, waiting, ended, Touched::of(list, e));

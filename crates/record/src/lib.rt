@@ -122,14 +122,14 @@ fn rest_from(bytes: &[u8], at: usize) -> [u8; 16]
 }
 
 // Two bytes, low byte first.
-fn half(b0: u8, b1: u8) -> u16
+pub fn half(b0: u8, b1: u8) -> u16
     ensures { λ r. ⌜ r ≡ b0 + 256 * b1 ⌝ }
 {
     (b0 as u16) + 256 * (b1 as u16)
 }
 
 // Four bytes, low byte first.
-fn word(b0: u8, b1: u8, b2: u8, b3: u8) -> u32
+pub fn word(b0: u8, b1: u8, b2: u8, b3: u8) -> u32
     ensures { λ r. ⌜ r ≡ b0 + 256 * b1 + 65536 * b2 + 16777216 * b3 ⌝ }
 {
     (b0 as u32) + 256 * (b1 as u32) + 65536 * (b2 as u32) + 16777216 * (b3 as u32)

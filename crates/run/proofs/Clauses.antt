@@ -1,8 +1,8 @@
 -- The clauses of a sound state, at what the code counts. Assumes nothing.
 use Prim.Native.Nat.{ℕ, suc, _+_, _-_}
-use mathlib.Core.Path.{_≡_}
+use mathlib.Core.Path.{_≡_, refl}
 use mathlib.Core.Bool.{_&&_}
-use mathlib.Core.List.{List}
+use mathlib.Core.List.{List, []}
 use lib.Dec.{eqb, leb}
 use lib.IntN.{pos}
 use lib.Signed.{leZ}
@@ -13,6 +13,7 @@ use Rattle.rules.specs.State.{State, position, priority, few-low, empty-at, sou
 use Rattle.rules.specs.List.{later-after, is-at}
 use Rattle.list.proofs.Given.{later-counted}
 use Rattle.rules.specs.State.{few-low-in, empty-in}
+use Rattle.run.specs.View.{of-parts}
 
 -- the whole, at the number of stations and the place of the first later record
 pub sound-given :
@@ -26,3 +27,9 @@ pub sound-given :
 unfolding sound-state few-low empty-at
 sound-given list s counted found =
     rw (later-counted list counted found, counted)
+
+-- it does not hang on what the variables hold
+pub sound-whatever : (list : List ℕ) (s : State)
+    → sound-state list (of-parts [] (s .positions) (s .priorities) (s .n) (s .b) (s .m)) ≡ sound-state list s
+unfolding sound-state few-low empty-at
+sound-whatever list s = refl

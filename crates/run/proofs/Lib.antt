@@ -1,5 +1,4 @@
 pub mod Clauses
-pub mod Charges
 pub mod Picks
 pub mod Runs
 pub mod Replays

@@ -69,7 +69,8 @@ pub(crate) fn begun(list: &[u8], b: u8, log: &[u8]) -> State
 {
     let n = list::stations(list);
     let initials = list::later(list, n) - n;
-    let vars = moves::initial_run(list, n, initials, [0u32; 32]);
+    let mut vars = [0u32; 32];
+    moves::initial_run(list, n, initials, &mut vars);
     State {
         vars,
         positions: outset::first_steps(list, n),

@@ -8,6 +8,7 @@ ghost use Rattle.run.specs.View.{as-state, as-ran};
 ghost use Rattle.run.specs.Promises.{RunPromise};
 use crate::Ran;
 use crate::State;
+use crate::step;
 use record::Record;
 
 // The smaller of two numbers.
@@ -51,28 +52,57 @@ impl State {
     }
 
     // So many steps, by the first of the picks, on a list and a state that are sound.
-    fn single_steps(self, list: &[u8], log: &mut [u8], picks: &[u8], count: usize) -> Ran
+    fn single_steps(mut self, list: &[u8], log: &mut [u8], picks: &[u8], count: usize) -> Ran
         requires { ⌜ Known (now list) (as-state self) × (2 * count ≤ length (now picks)) ⌝ }
         ensures { λ r. ⌜ as-ran r (now (log .exit)) ≡ steps-from (now (list .entry)) (now (picks .entry)) 0 count (as-state self) (now (log .entry)) ⌝ }
     {
-        let mut state = self;
+        let mut positions = self.positions;
+        let mut priorities = self.priorities;
+        let n = self.n;
+        let b = self.b;
+        let mut m = self.m;
         let mut steps: usize = 0;
         while steps < count {
             let at = 2 * steps;
-            let taken = state.sound_step(list, log, picks[at], picks[at + 1]);
-            state = taken.state;
-            if taken.number != 0 {
+            let number = step::logged(
+                list,
+                &mut self.vars,
+                &mut positions,
+                &mut priorities,
+                n,
+                b,
+                m,
+                log,
+                picks[at],
+                picks[at + 1],
+            );
+            if number != 0 {
                 return Ran {
-                    number: taken.number,
-                    state,
+                    number,
+                    state: State {
+                        vars: self.vars,
+                        positions,
+                        priorities,
+                        n,
+                        b,
+                        m,
+                    },
                     steps,
                 };
             }
+            m += 1;
             steps += 1;
         }
         Ran {
             number: 0,
-            state,
+            state: State {
+                vars: self.vars,
+                positions,
+                priorities,
+                n,
+                b,
+                m,
+            },
             steps,
         }
     }

@@ -1,7 +1,8 @@
 // Whether a state is sound against a list, of any values in any field. `soundness` has the clauses on positions and priorities.
 ghost use mathlib.Core.Path.{_≡_};
 ghost use Rattle.rules.specs.State.{sound-state};
-ghost use Rattle.run.specs.View.{as-state};
+ghost use mathlib.Core.List.{[]};
+ghost use Rattle.run.specs.View.{as-state, of-parts};
 use crate::State;
 use record::Record;
 
@@ -10,20 +11,34 @@ impl State {
     pub fn sound(self, list: &[u8]) -> bool
         ensures { λ r. ⌜ r ≡ sound-state (now (list .entry)) (as-state self) ⌝ }
     {
-        let n = list::stations(list);
-        if self.n as usize != n {
-            return false;
-        }
-        if Record::MAX_STEPS < self.m {
-            return false;
-        }
         let positions = self.positions;
         let priorities = self.priorities;
-        if !soundness::placed(list, list::later(list, n), positions, self.n) {
-            return false;
-        }
-        soundness::bounded(priorities, self.n, self.b)
-            & soundness::few_low(priorities, self.n)
-            & soundness::empty(positions, priorities, self.n)
+        parts_sound(list, &positions, &priorities, self.n, self.b, self.m)
     }
+}
+
+// Whether a state of these parts is sound against the list, whatever its variables hold.
+pub(crate) fn parts_sound(
+    list: &[u8],
+    positions: &[u16; 8],
+    priorities: &[i16; 8],
+    n: u8,
+    b: u8,
+    m: u16,
+) -> bool
+    ensures { λ r. ⌜ r ≡ sound-state (now (list .entry)) (of-parts [] (now (positions .entry)) (now (priorities .entry)) n b m) ⌝ }
+{
+    let count = list::stations(list);
+    if n as usize != count {
+        return false;
+    }
+    if Record::MAX_STEPS < m {
+        return false;
+    }
+    if !soundness::placed(list, list::later(list, count), *positions, n) {
+        return false;
+    }
+    soundness::bounded(*priorities, n, b)
+        & soundness::few_low(*priorities, n)
+        & soundness::empty(*positions, *priorities, n)
 }

@@ -1,21 +1,17 @@
 // One step: the tests of a pick, the state after it, and its record in the log.
 ghost use mathlib.Core.Path.{_≡_};
-ghost use Prim.Native.Nat.{_<_};
-ghost use Rattle.rules.specs.Words.{values};
-ghost use Rattle.rules.specs.Names.{max-stations, max-steps};
-ghost use Rattle.rules.specs.Ready.{ready};
-ghost use Rattle.rules.specs.Step.{stepped, picked};
+ghost use Rattle.rules.specs.Step.{step};
 ghost use Rattle.laws.specs.Passed.{Known};
-ghost use Rattle.run.specs.View.{as-state, as-picked};
+ghost use Rattle.run.specs.View.{as-state, of-parts, steps-after};
 ghost use Rattle.run.specs.Promises.{StepPromise};
 use crate::Outcome;
 use crate::State;
-use record::ListRecord;
+use crate::sound;
 use record::Record;
 
 impl State {
     // One step, by the pick of a station and its reset. A step taken writes its record to the log; a refusal writes nothing.
-    pub fn step(self, list: &[u8], log: &mut [u8], station: u8, reset: u8) -> Outcome
+    pub fn step(mut self, list: &[u8], log: &mut [u8], station: u8, reset: u8) -> Outcome
         ensures { λ r. ⌜ StepPromise (now (list .entry)) (as-state self) (now (log .entry)) (record { station = station; reset = reset }) r (now (log .exit)) ⌝ }
     {
         if !list::sound(list) {
@@ -24,89 +20,67 @@ impl State {
                 state: self,
             };
         }
-        if !self.sound(list) {
+        let mut positions = self.positions;
+        let mut priorities = self.priorities;
+        let n = self.n;
+        let b = self.b;
+        let m = self.m;
+        if !sound::parts_sound(list, &positions, &priorities, n, b, m) {
             return Outcome {
                 number: Record::STATE,
                 state: self,
             };
         }
-        self.sound_step(list, log, station, reset)
-    }
-
-    // One step, on a list and a state that are sound.
-    pub(crate) fn sound_step(self, list: &[u8], log: &mut [u8], station: u8, reset: u8) -> Outcome
-        requires { ⌜ Known (now list) (as-state self) ⌝ }
-        ensures { λ r. ⌜ StepPromise (now (list .entry)) (as-state self) (now (log .entry)) (record { station = station; reset = reset }) r (now (log .exit)) ⌝ }
-    {
-        if self.m == Record::MAX_STEPS {
-            return Outcome {
-                number: Record::FULL,
-                state: self,
-            };
-        }
-        if !logs::room(log, self.n, self.m) {
-            return Outcome {
-                number: Record::ROOM,
-                state: self,
-            };
-        }
-        let taken = self.pick(list, station, reset);
-        if taken.number != 0 {
-            return taken;
-        }
-        logs::put(log, self.n, self.m, station, reset);
-        taken
-    }
-
-    // One pick, on a list and a state that are sound, with a step left: 0 and the state after the step, or the refusal of tests 10 to 13
-    // and the state given.
-    pub(crate) fn pick(self, list: &[u8], station: u8, reset: u8) -> Outcome
-        requires { ⌜ Known (now list) (as-state self) × (self .m < max-steps) ⌝ }
-        ensures { λ r. ⌜ as-picked r ≡ picked (now (list .entry)) (as-state self) (record { station = station; reset = reset }) ⌝ }
-    {
-        if self.n <= station {
-            return Outcome {
-                number: Record::COMPONENT,
-                state: self,
-            };
-        }
-        let at = station as usize;
-        let positions = self.positions;
-        let priorities = self.priorities;
-        let all = stations::readiness(list, &self.vars, positions);
-        let lowest = stations::lowest_of(all, priorities, self.n as usize, at);
-        let number = stations::pick_refusal(all[at], lowest, self.b < reset);
-        if number != 0 {
-            return Outcome {
-                number,
-                state: self,
-            };
+        let number = logged(
+            list,
+            &mut self.vars,
+            &mut positions,
+            &mut priorities,
+            n,
+            b,
+            m,
+            log,
+            station,
+            reset,
+        );
+        self.positions = positions;
+        self.priorities = priorities;
+        if number == 0 {
+            self.m = m + 1;
         }
         Outcome {
-            number: 0,
-            state: self.stepped(list, all, station, reset),
+            number,
+            state: self,
         }
     }
+}
 
-    // The state after the step of a pick, where the readiness of the stations 0 to 7 before it is known.
-    fn stepped(self, list: &[u8], all: [bool; 8], station: u8, reset: u8) -> State
-        requires { ⌜ Known (now list) (as-state self) × (self .m < max-steps) × (all ≡ values (ready (now list) (as-state self)) max-stations) × (station < self .n) ⌝ }
-        ensures { λ r. ⌜ as-state r ≡ stepped (now (list .entry)) (as-state self) (record { station = station; reset = reset }) ⌝ }
-    {
-        let at = station as usize;
-        let mut positions = self.positions;
-        let e = ListRecord::at(list, positions[at] as usize);
-        positions[at] = moves::step_position(&self.vars, e);
-        let vars = self.vars;
-        let after = moves::step_vars(list, vars, e);
-        let priorities = self.priorities;
-        State {
-            vars: after,
-            positions,
-            priorities: charging::charged(priorities, self.n as usize, all, at, reset),
-            n: self.n,
-            b: self.b,
-            m: self.m + 1,
-        }
+// One step of the parts of a state, which are changed where they are, on a list and a state that are sound: 0 and a record more in the
+// log, or the refusal and nothing changed.
+pub(crate) fn logged(
+    list: &[u8],
+    vars: &mut [u32; 32],
+    positions: &mut [u16; 8],
+    priorities: &mut [i16; 8],
+    n: u8,
+    b: u8,
+    m: u16,
+    log: &mut [u8],
+    station: u8,
+    reset: u8,
+) -> u8
+    requires { ⌜ Known (now list) (of-parts (now vars) (now positions) (now priorities) n b m) ⌝ }
+    ensures { λ r. ⌜ record { number = r; state = of-parts (now (vars .exit)) (now (positions .exit)) (now (priorities .exit)) n b (steps-after r m); log = now (log .exit) } ≡ step (now (list .entry)) (of-parts (now (vars .entry)) (now (positions .entry)) (now (priorities .entry)) n b m) (now (log .entry)) (record { station = station; reset = reset }) ⌝ }
+{
+    if m == Record::MAX_STEPS {
+        return Record::FULL;
     }
+    if !logs::room(log, n, m) {
+        return Record::ROOM;
+    }
+    let number = picking::pick(list, vars, positions, priorities, n, b, station, reset);
+    if number == 0 {
+        logs::put(log, n, m, station, reset);
+    }
+    number
 }

@@ -6,7 +6,7 @@ ghost use Rattle.rules.specs.Words.{refusal};
 ghost use Rattle.rules.specs.Names.{max-steps};
 ghost use Rattle.rules.specs.Undo.{replay, before-replay};
 ghost use Rattle.laws.specs.Passed.{Known};
-ghost use Rattle.run.specs.View.{as-state, as-undone};
+ghost use Rattle.run.specs.View.{as-state, of-parts, as-took};
 ghost use Rattle.run.specs.Promises.{UndoPromise};
 use crate::Outcome;
 use crate::State;
@@ -25,16 +25,35 @@ impl State {
                 state: self,
             };
         }
-        let n = self.n as usize;
-        let m = self.m as usize;
-        let back = begin::begun(list, self.b, log).replay(list, log, n, m - 1);
-        if back.number != 0 {
+        let n = self.n;
+        let b = self.b;
+        let count = self.m - 1;
+        let mut back = begin::begun(list, b, log);
+        let mut positions = back.positions;
+        let mut priorities = back.priorities;
+        let number = replay(
+            list,
+            log,
+            &mut back.vars,
+            &mut positions,
+            &mut priorities,
+            n,
+            b,
+            count as usize,
+        );
+        if number != 0 {
             return Outcome {
                 number: Record::LOG,
                 state: self,
             };
         }
-        back
+        back.positions = positions;
+        back.priorities = priorities;
+        back.m = count;
+        Outcome {
+            number: 0,
+            state: back,
+        }
     }
 
     // What refuses an undo, of its tests in their order but the last, the replay. 0 where nothing does.
@@ -59,28 +78,42 @@ impl State {
         }
         0
     }
+}
 
-    // So many steps of a log, from record i on, replayed on a list and a state that are sound: 0 and the state reached, or the refusal of
-    // the first that is refused and the state before it.
-    fn replay(self, list: &[u8], log: &[u8], mut i: usize, count: usize) -> Outcome
-        requires { ⌜ Known (now list) (as-state self) × (self .m + count ≤ max-steps) × (2 * (i + count) ≤ length (now log)) ⌝ }
-        ensures { λ r. ⌜ as-undone r ≡ replay (now (list .entry)) (now (log .entry)) i count (as-state self) ⌝ }
-    {
-        let mut state = self;
-        let mut left = count;
-        while 0 < left {
-            let at = 2 * i;
-            let taken = state.pick(list, log[at], log[at + 1]);
-            state = taken.state;
-            if taken.number != 0 {
-                return Outcome {
-                    number: taken.number,
-                    state,
-                };
-            }
-            i += 1;
-            left -= 1;
+// Replays so many steps of a log, after its n start records, on a list and the parts of a state with no steps, both sound: 0, or the
+// refusal of the first that is refused. The parts are changed where they are.
+fn replay(
+    list: &[u8],
+    log: &[u8],
+    vars: &mut [u32; 32],
+    positions: &mut [u16; 8],
+    priorities: &mut [i16; 8],
+    n: u8,
+    b: u8,
+    count: usize,
+) -> u8
+    requires { ⌜ Known (now list) (of-parts (now vars) (now positions) (now priorities) n b 0) × (count ≤ max-steps) × (2 * (n + count) ≤ length (now log)) ⌝ }
+    ensures { λ r. ⌜ record { number = r; vars = now (vars .exit); positions = now (positions .exit); priorities = now (priorities .exit) } ≡ as-took (replay (now (list .entry)) (now (log .entry)) n count (of-parts (now (vars .entry)) (now (positions .entry)) (now (priorities .entry)) n b 0)) ⌝ }
+{
+    let mut i = n as usize;
+    let mut left = count;
+    while 0 < left {
+        let at = 2 * i;
+        let number = picking::pick(
+            list,
+            vars,
+            positions,
+            priorities,
+            n,
+            b,
+            log[at],
+            log[at + 1],
+        );
+        if number != 0 {
+            return number;
         }
-        Outcome { number: 0, state }
+        i += 1;
+        left -= 1;
     }
+    0
 }

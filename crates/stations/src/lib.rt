@@ -4,13 +4,15 @@ ghost use mathlib.Core.Path.{_≡_};
 ghost use mathlib.Core.Bool.{false, not};
 ghost use mathlib.Core.List.{[], _∷_};
 ghost use lib.ListN.{getD};
-ghost use Rattle.rules.specs.Words.{values, _refuses_at_, refusal};
+ghost use Prim.Native.Nat.{min};
+ghost use Rattle.rules.specs.Words.{values, each, changed, _refuses_at_, refusal};
 ghost use Rattle.rules.specs.Names.{NOT-READY, TURN, RESET, max-stations};
 ghost use Rattle.rules.specs.Records.{list-record-at};
 ghost use Rattle.record.specs.View.{as-list-record};
 ghost use Rattle.rules.specs.State.{position-in, priority-in};
 ghost use Rattle.rules.specs.Ready.{ended-at, waiting-at, ready-at};
 ghost use Rattle.rules.specs.Turn.{yields-to, lowest-of};
+ghost use Rattle.stations.specs.Narrowed.{ready-from};
 use record::ListRecord;
 use record::Record;
 
@@ -26,9 +28,8 @@ pub fn ended_at(e: ListRecord) -> bool
 pub fn waiting_at(vars: &[u32; 32], e: ListRecord) -> bool
     ensures { λ r. ⌜ r ≡ waiting-at (now (vars .entry)) (as-list-record e) ⌝ }
 {
-    let own = e.own;
-    if own.kind == Record::AWAIT {
-        return !values::holds(vars, own);
+    if e.own.kind == Record::AWAIT {
+        return !values::holds(vars, e.own.op, e.own.b as usize, e.own.k);
     }
     false
 }
@@ -37,7 +38,47 @@ pub fn waiting_at(vars: &[u32; 32], e: ListRecord) -> bool
 pub fn ready_at(vars: &[u32; 32], e: ListRecord) -> bool
     ensures { λ r. ⌜ r ≡ ready-at (now (vars .entry)) (as-list-record e) ⌝ }
 {
-    !ended_at(e) & !waiting_at(vars, e)
+    let kind = e.own.kind;
+    match kind {
+        Record::STOP => false,
+        Record::AWAIT => values::holds(vars, e.own.op, e.own.b as usize, e.own.k),
+        _ => true,
+    }
+}
+
+// Whether a station whose next step is the record at this place of the list, which is read narrowed, is ready.
+fn ready_from(list: &[u8], vars: &[u32; 32], place: u16) -> bool
+    ensures { λ r. ⌜ r ≡ ready-from (now (list .entry)) (now (vars .entry)) place ⌝ }
+{
+    let e = narrow::narrowed(list, place as usize);
+    ready_at(vars, e)
+}
+
+// Fills in which of the first n stations, at most eight, are ready, and answers whether none of them is ready with a priority below own.
+// The list is read as a run reads it, narrowed.
+pub fn judge(
+    list: &[u8],
+    vars: &[u32; 32],
+    positions: &[u16; 8],
+    priorities: &[i16; 8],
+    n: u8,
+    own: i16,
+    all: &mut [bool; 8],
+) -> bool
+    ensures { λ r. ⌜ (now (all .exit) ≡ changed (λ j was. ready-from (now (list .entry)) (now (vars .entry)) (position-in (now (positions .entry)) j)) (min n max-stations) (now (all .entry))) × (r ≡ each (λ j. yields-to (ready-from (now (list .entry)) (now (vars .entry)) (position-in (now (positions .entry)) j)) own (priority-in (now (priorities .entry)) j)) (min n max-stations)) ⌝ }
+{
+    let mut lowest = true;
+    let given = n as usize;
+    let mut j: usize = 0;
+    while j < given && j < Record::MAX_STATIONS {
+        let ready = ready_from(list, vars, positions[j]);
+        all[j] = ready;
+        if ready && priorities[j] < own {
+            lowest = false;
+        }
+        j += 1;
+    }
+    lowest
 }
 
 // Whether each of the stations 0 to 7 is ready, with these variables and positions.

@@ -1,11 +1,11 @@
-// What a SET gives its variable, and whether a condition holds. A function that reads the 32 variables borrows them; one that changes
-// them takes them and hands them back. A variable past 31 reads 0, and a SET of one changes nothing.
+// What a SET gives its variable, and whether a condition holds, of the numbers in a record: op, a, b and k. A function that reads the
+// variables borrows them, and one that changes them writes them where they are. A variable past the last reads 0, and a SET of one
+// changes nothing.
 ghost use mathlib.Core.Path.{_≡_};
 ghost use lib.ListN.{getD};
 ghost use Rattle.rules.specs.Values as rules;
 ghost use Rattle.rules.specs.Values.{plus, minus, set-value, compares};
-ghost use Rattle.record.specs.View.{as-record};
-use record::Record;
+ghost use Rattle.values.specs.Fields.{fields};
 
 // What a variable holds; past the last one 0.
 fn variable(vars: &[u32], number: usize) -> u32
@@ -32,43 +32,39 @@ fn difference(x: u32, y: u32) -> u32
 }
 
 // The value that a SET gives its variable, by its op.
-fn value(vars: &[u32; 32], r: Record) -> u32
-    ensures { λ x. ⌜ x ≡ set-value (now (vars .entry)) (as-record r) ⌝ }
+fn value(vars: &[u32], op: u8, b: usize, k: u32) -> u32
+    ensures { λ x. ⌜ x ≡ set-value (now (vars .entry)) (fields op 0 b k) ⌝ }
 {
-    let b = variable(vars, r.b as usize);
-    let op = r.op;
+    let x = variable(vars, b);
     match op {
-        0 => r.k,
-        1 => b,
-        2 => sum(b, r.k),
-        3 => difference(b, r.k),
-        4 => sum(b, variable(vars, r.k as usize)),
-        _ => difference(b, variable(vars, r.k as usize)),
+        0 => k,
+        1 => x,
+        2 => sum(x, k),
+        3 => difference(x, k),
+        4 => sum(x, variable(vars, k as usize)),
+        _ => difference(x, variable(vars, k as usize)),
     }
 }
 
-// The variables after a SET.
-pub fn assigned(mut vars: [u32; 32], r: Record) -> [u32; 32]
-    ensures { λ x. ⌜ x ≡ rules.assigned vars (as-record r) ⌝ }
+// A SET of variable a.
+pub fn assign(vars: &mut [u32], op: u8, a: usize, b: usize, k: u32)
+    ensures { λ x. ⌜ now (vars .exit) ≡ rules.assigned (now (vars .entry)) (fields op a b k) ⌝ }
 {
-    let x = value(&vars, r);
-    let a = r.a as usize;
+    let x = value(vars, op, b, k);
     if a < vars.len() {
         vars[a] = x;
     }
-    vars
 }
 
 // Whether a condition holds. Ops 0 to 3 compare with k, the others with variable k.
-pub fn holds(vars: &[u32; 32], r: Record) -> bool
-    ensures { λ x. ⌜ x ≡ rules.holds (now (vars .entry)) (as-record r) ⌝ }
+pub fn holds(vars: &[u32], op: u8, b: usize, k: u32) -> bool
+    ensures { λ x. ⌜ x ≡ rules.holds (now (vars .entry)) (fields op 0 b k) ⌝ }
 {
-    let op = r.op;
-    let b = variable(vars, r.b as usize);
+    let x = variable(vars, b);
     if op < 4 {
-        return compared(op % 4, b, r.k);
+        return compared(op % 4, x, k);
     }
-    compared(op % 4, b, variable(vars, r.k as usize))
+    compared(op % 4, x, variable(vars, k as usize))
 }
 
 // Whether x equals, differs from, is below or is at least y: comparison 0, 1, 2 or 3.

@@ -5,16 +5,18 @@ use mathlib.Core.Path.{_≡_, refl, _∙_}
 use Prim.Native.Nat.{_-_}
 use native.Mathlib.Omega.{arith}
 use Rattle.rules.specs.Start.{initial-run}
+use Rattle.record.specs.View.{as-record}
+use Rattle.values.proofs.Looks.{assigned-looks}
 use Rattle.moves.proofs.Turns.{initial-turn, initial-past}
 use borrow.Author.Needs.{needs}
 use Rattle.moves.proofs.initial_run.Statement.{statement}
 use Rattle.moves.proofs.initial_run.Tie as tie
 
 abbrev Inv-loop : tie.InvT-loop
-Inv-loop list place₀ count vars₀ left₀ place vars left = initial-run list place left vars ≡ initial-run list place₀ count vars₀
+Inv-loop list from count vars₀ place₀ left₀ vars place left = initial-run list place left vars ≡ initial-run list from count vars₀
 
 abbrev μ-loop : tie.MeasureT-loop
-μ-loop list place₀ count vars₀ left₀ place vars left = left
+μ-loop list from count vars₀ place₀ left₀ vars place left = left
 
 loop-holds : tie.Need-loop-holds Inv-loop μ-loop
 loop-holds c = refl
@@ -22,15 +24,21 @@ loop-holds c = refl
 at-requires : tie.Need-at-requires Inv-loop μ-loop
 at-requires c κs = search needs
 
-assigned-requires : tie.Need-assigned-requires Inv-loop μ-loop
-assigned-requires c κs = search needs
+cast-assign : tie.Need-cast-assign Inv-loop μ-loop
+cast-assign c = search needs
+
+cast-assign-2 : tie.Need-cast-assign-2 Inv-loop μ-loop
+cast-assign-2 c = search needs
+
+assign-requires : tie.Need-assign-requires Inv-loop μ-loop
+assign-requires c κs = search needs
 
 returns : tie.Need-returns Inv-loop μ-loop
 returns c =
-    let found = c .before .before in
+    let found = c .before .before .before .before .before in
     let loop = found .before .before .loop in
     initial-past _ (loop .left - 1) (loop .place) (loop .vars) (c .if1 .taken) (omega arith)
-    (found .at .ensures) (c .before .assigned .ensures)
+    (found .at .ensures) (c .before .assign .ensures ∙ assigned-looks (loop .vars) (as-record (found .at .result .own)))
     ∙ loop .inv
 
 add-place : tie.Need-add-place Inv-loop μ-loop
@@ -44,10 +52,10 @@ loop-less c = search needs
 
 loop-again : tie.Need-loop-again Inv-loop μ-loop
 loop-again c =
-    let found = c .before .before in
+    let found = c .before .before .before .before .before in
     let loop = found .before .before .loop in
     initial-turn _ (loop .left - 1) (loop .place) (loop .vars) (omega arith)
-    (found .at .ensures) (c .before .assigned .ensures)
+    (found .at .ensures) (c .before .assign .ensures ∙ assigned-looks (loop .vars) (as-record (found .at .result .own)))
     ∙ loop .inv
 
 returns-2 : tie.Need-returns-2 Inv-loop μ-loop
@@ -64,7 +72,9 @@ initial-run-spec =
     μ-loop
     loop-holds
     at-requires
-    assigned-requires
+    cast-assign
+    cast-assign-2
+    assign-requires
     returns
     add-place
     sub-left

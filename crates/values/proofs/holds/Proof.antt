@@ -6,9 +6,6 @@ use borrow.Author.Needs.{needs}
 use Rattle.values.proofs.holds.Statement.{statement}
 use Rattle.values.proofs.holds.Tie as tie
 
-cast-variable : tie.Need-cast-variable
-cast-variable c = search needs
-
 variable-requires : tie.Need-variable-requires
 variable-requires c κs = search needs
 
@@ -19,9 +16,6 @@ returns : tie.Need-returns
 unfolding holds
 returns c = rw (lt-ltb _ 4 (c .before .if1 .taken)) (rw (c .before .before .variable .ensures) at (c .compared .ensures))
 
-cast-variable-2 : tie.Need-cast-variable-2
-cast-variable-2 c = search needs
-
 variable-requires-2 : tie.Need-variable-requires-2
 variable-requires-2 c κs = search needs
 
@@ -31,7 +25,7 @@ compared-requires-2 c κs = search needs
 returns-2 : tie.Need-returns-2
 unfolding holds
 returns-2 c =
-    let other = c .before .before .before .before in
+    let other = c .before .before in
     rw (le-ltb _ 4 (other .if1 .left))
     (rw (other .before .variable .ensures, c .before .variable2 .ensures) at (c .compared2 .ensures))
 
@@ -39,11 +33,9 @@ pub holds-spec : {M : Type 1} → statement M
 holds-spec =
     tie.close
     (tie.spec
-    cast-variable
     variable-requires
     compared-requires
     returns
-    cast-variable-2
     variable-requires-2
     compared-requires-2
     returns-2)

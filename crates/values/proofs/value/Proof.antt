@@ -6,9 +6,6 @@ use borrow.Author.Needs.{needs}
 use Rattle.values.proofs.value.Statement.{statement}
 use Rattle.values.proofs.value.Tie as tie
 
-cast-variable : tie.Need-cast-variable
-cast-variable c = search needs
-
 variable-requires : tie.Need-variable-requires
 variable-requires c κs = search needs
 
@@ -18,17 +15,11 @@ sum-requires c κs = search needs
 difference-requires : tie.Need-difference-requires
 difference-requires c κs = search needs
 
-cast-variable-2 : tie.Need-cast-variable-2
-cast-variable-2 c = search needs
-
 variable-requires-2 : tie.Need-variable-requires-2
 variable-requires-2 c κs = search needs
 
 sum-requires-2 : tie.Need-sum-requires-2
 sum-requires-2 c κs = search needs
-
-cast-variable-3 : tie.Need-cast-variable-3
-cast-variable-3 c = search needs
 
 variable-requires-3 : tie.Need-variable-requires-3
 variable-requires-3 c κs = search needs
@@ -55,13 +46,13 @@ returns-4 c = rw (c .before .match .keys4) (rw (c .before .before .variable .ens
 returns-5 : tie.Need-returns-5
 unfolding set-value
 returns-5 c =
-    let arm = c .before .before .before .before in
+    let arm = c .before .before in
     rw (arm .match .keys5) (rw (arm .before .variable .ensures, c .before .variable2 .ensures) at (c .sum2 .ensures))
 
 returns-6 : tie.Need-returns-6
 unfolding set-value
 returns-6 c =
-    let arm = c .before .before .before .before in
+    let arm = c .before .before in
     let rest = arm .match .rest in
     simp (
       ne-eqb _ 0 (rest .0 .0 .0 .0 .1),
@@ -76,14 +67,11 @@ pub value-spec : {M : Type 1} → statement M
 value-spec =
     tie.close
     (tie.spec
-    cast-variable
     variable-requires
     sum-requires
     difference-requires
-    cast-variable-2
     variable-requires-2
     sum-requires-2
-    cast-variable-3
     variable-requires-3
     difference-requires-2
     returns

@@ -59,8 +59,8 @@ cast-at c = search needs
 at-requires : tie.Need-at-requires Inv-loop μ-loop
 at-requires c κs = search needs
 
-array-read-in-turn : tie.Need-array-read-in-turn Inv-loop μ-loop
-array-read-in-turn c = within (c .before .before)
+array-read-if2 : tie.Need-array-read-if2 Inv-loop μ-loop
+array-read-if2 c = within (c .before .before)
 
 lowest-of-requires : tie.Need-lowest-of-requires Inv-loop μ-loop
 lowest-of-requires c κs = search needs
@@ -94,8 +94,8 @@ loop-again c =
     let of = c .before in
     let ended = of .before in
     let waits = ended .before in
-    let low = waits .before in
-    let found = low .before in
+    let sought = waits .before in
+    let found = sought .before in
     let turn = found .before .before in
     let at = turn .before in
     let all = at .before .before in
@@ -105,7 +105,10 @@ loop-again c =
     let j = at .loop .j - 1 in
     let back : j + 1 ≡ at .loop .j = omega (arith, turn .loop-test .taken) in
     let here : j < s .n = omega (arith, turn .loop-test .taken, at .loop .inv .0) in
-    let turns = turn-known list s (given .n) (all .readiness .ensures) (few all) here refl (low .lowest-of .ensures) in
+    -- the lowest was sought where it is ready
+    let turns =
+    turn-known list s {turn = sought .if2 .in-turn} (given .n) (all .readiness .ensures) (few all) here refl
+    (⊎-elim (λ w. rw (w .0 .taken, w .2) (w .1 .ensures)) (λ w. rw (w .1, w .0 .left)) (sought .if2 .came)) in
     let so-far : at .loop .masks ≡ masks-from list s (j + 1) = rw back (at .loop .inv .1) in (
       omega (arith, at .loop .inv .0),
       gathered-more list s (c .with-station .ensures) here so-far (turns .0) (turns .1)
@@ -131,7 +134,7 @@ of-spec =
     array-read-at
     cast-at
     at-requires
-    array-read-in-turn
+    array-read-if2
     lowest-of-requires
     waiting-at-requires
     ended-at-requires

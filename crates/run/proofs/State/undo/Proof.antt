@@ -2,23 +2,20 @@
 -- Assumes nothing.
 use mathlib.Core.Path.{_≡_, sym, ap, _∙_}
 use native.Mathlib.Omega.{arith}
-use lib.Dec.{eqb}
 use borrow.Author.Needs.{needs}
 use borrow.Author.Tests.{eq-eqb, ne-eqb}
-use Rattle.rules.specs.Words.{if_then_else_}
-use Rattle.rules.specs.Names.{LOG}
+use Rattle.rules.specs.Words.{values}
+use Rattle.rules.specs.Records.{pick-at}
 use Rattle.rules.specs.List.{stations}
 use Rattle.rules.specs.State.{State}
 use Rattle.rules.specs.Start.{started}
-use Rattle.rules.specs.Undo as rules
 use Rattle.laws.proofs.Sound.{sound-means}
-use Rattle.run.specs.View.{as-state, as-undone}
-use Rattle.run.proofs.Picks.{few-steps}
+use Rattle.run.specs.View.{as-state, of-parts, as-took}
 use Rattle.laws.specs.Passed.{CanReplay}
 use Rattle.laws.proofs.Passed.{replay-passed}
-use Rattle.laws.proofs.Answers.{undo-refused-before, undo-replayed}
+use Rattle.laws.proofs.Answers.{undo-refused-before}
 use Rattle.fair.proofs.Withdrawn.{restarted-sound}
-use Rattle.run.proofs.Replays.{replayed-counted}
+use Rattle.run.proofs.Replays.{replayed-counted, undo-took}
 use Rattle.run.proofs.State.undo.Statement.{statement}
 use Rattle.run.proofs.State.undo.Tie as tie
 
@@ -29,15 +26,23 @@ passed c = replay-passed _ _ _ .0 (sym (c .before .undo-refusal .ensures) ∙ c 
 counted : (c : tie.Else1) → let a = c .before .before .before .before .args in a .self .n ≡ stations (a .list .now)
 counted c = sound-means _ _ .0 (passed c .of-state) .of-list
 
--- the replay decides
-by-replay : (c : tie.After-replay) → let a = c .before .before .before .before .before .before .before .before .args in
-    let back = as-undone (c .replay .result) in
-    rules.undo (a .list .now) (as-state (a .self)) (a .log .now)
-    ≡ (if eqb (back .number) 0 then record { number = 0; state = back .state } else record { number = LOG; state = as-state (a .self) })
-by-replay c =
-    let tested = c .before .before .before .before in
-    let back = rw (c .before .begun .ensures) at (c .replay .ensures) ∙ sym (replayed-counted _ _ _ _ (counted tested) _) in
-    rw (← back) at (undo-replayed _ _ _ (passed tested))
+-- the state of the start records has the stations and the largest reset of the state given
+same : (c : tie.After-begun) → let a = c .before .before .before .before .before .before .args in
+    (c .begun .result .n ≡ a .self .n) × (c .begun .result .b ≡ a .self .b)
+unfolding started
+same c =
+    let is = c .begun .ensures in
+    (ap (λ (s : State). s .n) is ∙ sym (counted (c .before .before)), ap (λ (s : State). s .b) is)
+
+-- and the replay begins with it
+begun-is : (c : tie.After-begun) → let a = c .before .before .before .before .before .before .args in
+    let back = c .begun .result in
+    of-parts (back .vars) (back .positions) (back .priorities) (a .self .n) (a .self .b) 0
+    ≡ started (a .list .now) (a .self .b) (values (λ j. pick-at (a .log .now) j .reset) (stations (a .list .now)))
+unfolding started
+begun-is c =
+    let is = c .begun .ensures in
+    rw (same c .0, same c .1, ap (λ (s : State). s .m) is) at is
 
 undo-refusal-requires : tie.Need-undo-refusal-requires
 undo-refusal-requires c κs = search needs
@@ -47,34 +52,45 @@ returns c =
     let number = c .before .undo-refusal .ensures in
     rw (undo-refused-before _ _ _ (λ none. c .if1 .taken (number ∙ none)), number)
 
-cast-n : tie.Need-cast-n
-cast-n c = search needs
-
-cast-m : tie.Need-cast-m
-cast-m c = search needs
+sub-count : tie.Need-sub-count
+sub-count c = omega (arith, passed (c .before) .some-steps)
 
 begun-requires : tie.Need-begun-requires
-begun-requires c κs = passed (c .before .before) .of-list
+begun-requires c κs = passed (c .before) .of-list
 
-sub-replay : tie.Need-sub-replay
-sub-replay c = omega (arith, passed (c .before .before .before) .some-steps)
+cast-replay : tie.Need-cast-replay
+cast-replay c = search needs
 
 replay-requires : tie.Need-replay-requires
-unfolding started
 replay-requires c κs =
-    let tested = c .before .before .before in
-    let r = passed tested in
-    let m : c .begun .result .m ≡ 0 = ap (λ (s : State). s .m) (c .begun .ensures) in (
-      record { of-list = r .of-list; of-state = rw (c .begun .ensures) (restarted-sound _ _ _ (r .of-list) (r .starts)) },
+    let begun = c .before .before .before .before .before in
+    let tested = begun .before .before in
+    let r = passed tested in (
+      record { of-list = r .of-list; of-state = rw (begun-is begun) (restarted-sound _ _ _ (r .of-list) (r .starts)) },
       omega (arith, sound-means _ _ .0 (r .of-state) .few-steps),
       omega (arith, r .room, r .some-steps),
     )
 
 returns-2 : tie.Need-returns-2
-returns-2 c = rw (by-replay (c .before .before), ne-eqb _ _ (c .if2 .taken))
+returns-2 c =
+    let done = c .before in
+    let begun = done .before .before .before .before .before .before in
+    let tested = begun .before .before in
+    let back = rw (begun-is begun) at (done .replay .ensures) ∙ ap as-took (sym (replayed-counted _ _ _ _ (counted tested) _)) in
+    rw (undo-took _ _ _ (passed tested) back, ne-eqb _ _ (c .if2 .taken))
 
 returns-3 : tie.Need-returns-3
-returns-3 c = rw (by-replay (c .before .before), eq-eqb _ _ (c .if2 .left), c .if2 .left)
+returns-3 c =
+    let done = c .before in
+    let begun = done .before .before .before .before .before .before in
+    let tested = begun .before .before in
+    let back = rw (begun-is begun) at (done .replay .ensures) ∙ ap as-took (sym (replayed-counted _ _ _ _ (counted tested) _)) in
+    rw (
+      undo-took _ _ _ (passed tested) back,
+      eq-eqb _ _ (c .if2 .left),
+      same begun .0,
+      same begun .1,
+    )
 
 pub undo-spec : {M : Type 1} → statement M
 undo-spec =
@@ -82,10 +98,9 @@ undo-spec =
     (tie.spec
     undo-refusal-requires
     returns
-    cast-n
-    cast-m
+    sub-count
     begun-requires
-    sub-replay
+    cast-replay
     replay-requires
     returns-2
     returns-3)

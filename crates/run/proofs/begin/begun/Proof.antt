@@ -37,13 +37,13 @@ first-priorities-requires c κs = search needs
 few : (c : tie.After-stations) → c .stations .result ≤ max-stations
 few c = omega (arith, c .stations .ensures, few-stations _ (c .before .before .before .pre))
 
-cast-t11 : tie.Need-cast-t11
-cast-t11 c = omega (arith, few (c .before .before .before .before))
+cast-t13 : tie.Need-cast-t13
+cast-t13 c = omega (arith, few (c .before .before .before .before .before))
 
 returns : tie.Need-returns
 unfolding started
 returns c =
-    let found = c .before .before .before in
+    let found = c .before .before .before .before in
     let counted = found .before in
     let first = later-counted _ (counted .stations .ensures) (found .later .ensures) in
     let initial : found .later .result - counted .stations .result ≡ initials (counted .before .before .before .args .list .now) =
@@ -69,5 +69,5 @@ begun-spec =
     initial-run-requires
     first-steps-requires
     first-priorities-requires
-    cast-t11
+    cast-t13
     returns)

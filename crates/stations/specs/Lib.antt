@@ -1,0 +1,2 @@
+-- Readiness by a list as a run reads it.
+pub mod Narrowed
