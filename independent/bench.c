@@ -37,9 +37,10 @@ enum { STACK_BYTES = 1 << 20, PAINT = 0xA5, MOST_RESET = 3 };
 
 /* ---- inputs */
 
-enum call { CHECK, BUILD, START, STEP, ADVANCE, RUN, UNDO, LIGHTS, CALLS };
+enum call { CHECK, BUILD, START, STEP, ADVANCE, RUN, UNDO, READINESS, LIGHTS, CALLS };
 
-static const char *const call_names[CALLS] = {"check", "build", "start", "step", "advance", "run", "undo", "lights"};
+static const char *const call_names[CALLS] = {"check", "build", "start",     "step",  "advance",
+                                              "run",   "undo",  "readiness", "lights"};
 
 /* What a call is given. The log is the one of a run that stands; step and run write to copies of it. */
 struct input {
@@ -327,6 +328,7 @@ union our_answer {
     press_outcome stepped;
     press_ran ran;
     press_outcome undone;
+    press_told told;
     press_lit lit;
 };
 
@@ -335,6 +337,7 @@ union their_answer {
     struct ind_build_answer built;
     struct ind_state_answer state;
     struct ind_run_answer ran;
+    struct ind_readiness_answer told;
     struct ind_lights_answer lit;
 };
 
@@ -367,6 +370,7 @@ IDLE(uint8_t, advance, press_state *state, const uint8_t *list, size_t list_len,
 IDLE(press_ran, run, press_state state, const uint8_t *list, size_t list_len, uint8_t *log, size_t log_len,
      const uint8_t *picks, size_t picks_len, size_t most)
 IDLE(press_outcome, undo, press_state state, const uint8_t *list, size_t list_len, const uint8_t *log, size_t log_len)
+IDLE(press_told, readiness, press_state state, const uint8_t *list, size_t list_len, uint8_t station)
 IDLE(press_lit, lights, press_state state, const uint8_t *list, size_t list_len)
 #pragma GCC diagnostic pop
 
@@ -411,13 +415,19 @@ static void their_undo(const struct input *in, union their_answer *r)
     r->state = ind_undo(in->list, in->list_len, in->state, in->log, sizeof in->log);
 }
 
+/* Readiness of the station of the first pick. */
+static void their_readiness(const struct input *in, union their_answer *r)
+{
+    r->told = ind_readiness(in->list, in->list_len, in->state, in->picks[0]);
+}
+
 static void their_lights(const struct input *in, union their_answer *r)
 {
     r->lit = ind_lights(in->list, in->list_len, in->state);
 }
 
-static their_call *const their_calls[CALLS] = {their_check, their_build, their_start, their_step,
-                                               their_step, their_run, their_undo, their_lights};
+static their_call *const their_calls[CALLS] = {their_check, their_build, their_start, their_step, their_step,
+                                               their_run, their_undo, their_readiness, their_lights};
 
 /* Both answers to a call are the same and have the expected number. */
 static int right(enum call call, const union our_answer *r, const union their_answer *t, uint8_t number)
@@ -431,6 +441,8 @@ static int right(enum call call, const union our_answer *r, const union their_an
     case RUN:
         return r->ran.number == number && t->ran.number == number && r->ran.steps == t->ran.steps
             && same_state(&r->ran.state, &t->ran.state);
+    case READINESS:
+        return r->told.number == number && t->told.number == number && r->told.place == t->told.place;
     case LIGHTS:
         return r->lit.number == number && t->lit.number == number && r->lit.ready == t->lit.ready
             && r->lit.in_turn == t->lit.in_turn && r->lit.waiting == t->lit.waiting && r->lit.ended == t->lit.ended
@@ -628,6 +640,7 @@ static void make_run_subjects(void)
     /* Each station stands at an AWAIT that holds, so that a step runs a body. */
     const struct input *bodies = with_picks(await_loops(100), IND_MAX_STEPS);
     const struct input *short_bodies = with_picks(await_loops(50), IND_MAX_STEPS);
+    const struct input *waiting = await_list(100, 1), *short_waiting = await_list(50, 1);
     subject(START, "list of 1,032 records", 0, all, few, "records of the list");
     subject(STEP, "list of 7 records", 0, small, NULL, "");
     subject(STEP, "list of 1,032 records", 0, all, few, "records of the list");
@@ -640,7 +653,10 @@ static void make_run_subjects(void)
     subject(UNDO, "4,096 steps, list of 1,032 records", 0, after_picks(all), after_picks(fewer_picks), "standing steps");
     subject(UNDO, "4,096 steps, AWAITs of 100 records", 0, after_picks(bodies), after_picks(short_bodies),
             "records of a body");
-    subject(LIGHTS, "8 waiting at AWAITs of 100 records", 0, await_list(100, 1), await_list(50, 1), "records of a body");
+    subject(READINESS, "list of 7 records", 0, small, NULL, "");
+    subject(READINESS, "list of 1,032 records", 0, all, few, "records of the list");
+    subject(READINESS, "8 waiting at AWAITs of 100 records", IND_NOT_READY, waiting, short_waiting, "records of a body");
+    subject(LIGHTS, "8 waiting at AWAITs of 100 records", 0, waiting, short_waiting, "records of a body");
 }
 
 /* The first table. Answers the worst ratio. */
@@ -650,12 +666,12 @@ static double show_ratios(void)
     printf("Ratios: the best of %d rounds of each side, the two by turns. Cleared: whether buffers were cleared between\n"
            "repetitions; none where the call writes to none.\n\n",
            ROUNDS);
-    printf("%-8s %-36s %11s %7s %10s %10s %6s\n", "call", "on", "repetitions", "cleared", "ours ns", "theirs ns",
+    printf("%-9s %-36s %11s %7s %10s %10s %6s\n", "call", "on", "repetitions", "cleared", "ours ns", "theirs ns",
            "ratio");
     for (struct subject *s = subjects; s < subjects + subject_count; s++) {
         s->timing = timed(s->name, s->call, s->whole, s->number);
         const double ratio = s->timing.ours / s->timing.theirs;
-        printf("%-8s %-36s %11zu %7s %10.0f %10.0f %6.2f\n", call_names[s->call], s->name, s->timing.repetitions,
+        printf("%-9s %-36s %11zu %7s %10.0f %10.0f %6.2f\n", call_names[s->call], s->name, s->timing.repetitions,
                cleared(s->call), s->timing.ours, s->timing.theirs, ratio);
         worst = ratio > worst ? ratio : worst;
     }
@@ -671,7 +687,7 @@ static size_t show_stacks(void)
     size_t deepest = 0;
     printf("\nStack: the deepest of each of our calls, and of those bytes the caller's, which are its frame, the\n"
            "arguments and the place for the answer where they are on the stack, and the return address.\n\n");
-    printf("%-8s %-36s %11s %11s\n", "call", "on", "bytes", "caller's");
+    printf("%-9s %-36s %11s %11s\n", "call", "on", "bytes", "caller's");
     for (enum call call = CHECK; call < CALLS; call++) {
         const struct subject *at = NULL;
         size_t most = 0;
@@ -682,7 +698,7 @@ static size_t show_stacks(void)
                 at = s;
             }
         }
-        printf("%-8s %-36s %11zu %11zu\n", call_names[call], at ? at->name : "", most,
+        printf("%-9s %-36s %11zu %11zu\n", call_names[call], at ? at->name : "", most,
                at ? stack_of(bare_calls[call], at->whole) : 0);
         deepest = most > deepest ? most : deepest;
     }
@@ -694,13 +710,13 @@ static double show_growths(void)
 {
     double worst = 0;
     printf("\nGrowth: our time on the whole input by our time on one with half of what the last column names.\n\n");
-    printf("%-8s %-36s %10s %10s %6s  %s\n", "call", "on", "half ns", "whole ns", "growth", "doubled");
+    printf("%-9s %-36s %10s %10s %6s  %s\n", "call", "on", "half ns", "whole ns", "growth", "doubled");
     for (const struct subject *s = subjects; s < subjects + subject_count; s++) {
         if (!s->half)
             continue;
         const struct timing half = timed(s->name, s->call, s->half, s->number);
         const double growth = s->timing.ours / half.ours;
-        printf("%-8s %-36s %10.0f %10.0f %6.2f  %s\n", call_names[s->call], s->name, half.ours, s->timing.ours, growth,
+        printf("%-9s %-36s %10.0f %10.0f %6.2f  %s\n", call_names[s->call], s->name, half.ours, s->timing.ours, growth,
                s->doubled);
         worst = growth > worst ? growth : worst;
     }

@@ -44,10 +44,16 @@ static void CALLER(undo)(const struct input *in, union our_answer *r)
     r->undone = CALLEE(undo)(in->our_state, in->list, in->list_len, in->log, sizeof in->log);
 }
 
+/* Readiness of the station of the first pick. */
+static void CALLER(readiness)(const struct input *in, union our_answer *r)
+{
+    r->told = CALLEE(readiness)(in->our_state, in->list, in->list_len, in->picks[0]);
+}
+
 static void CALLER(lights)(const struct input *in, union our_answer *r)
 {
     r->lit = CALLEE(lights)(in->our_state, in->list, in->list_len);
 }
 
-static our_call *const CALLER(calls)[CALLS] = {CALLER(check), CALLER(build), CALLER(start), CALLER(step),
-                                               CALLER(advance), CALLER(run), CALLER(undo), CALLER(lights)};
+static our_call *const CALLER(calls)[CALLS] = {CALLER(check), CALLER(build), CALLER(start), CALLER(step), CALLER(advance),
+                                               CALLER(run), CALLER(undo), CALLER(readiness), CALLER(lights)};

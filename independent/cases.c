@@ -3,26 +3,28 @@
  *
  *   cases write SEED        writes the stream for the seed to standard output
  *                           and a table of call x number to standard error;
- *                           ends with 1 where a number that the document
- *                           allows a call was never reached, or one that it
- *                           does not allow was
+ *                           ends with 1 where a number that the documents
+ *                           allow a call was never reached, or one that they
+ *                           do not allow was
  *   cases random SEED ROUNDS
  *                           writes so many rounds of random cases alone, and
  *                           the table
  *   cases answer            reads a stream and prints one line a case
  *
  * The stream has no header.  A case is one byte for the call (1 check,
- * 2 build, 3 start, 4 step, 5 run, 6 undo, 7 lights, 8 trace), then the call's
- * fields in order, each as a 2-byte length, low byte first, and its bytes:
+ * 2 build, 3 start, 4 step, 5 run, 6 undo, 7 lights, 8 trace, 9 readiness),
+ * then the call's fields in order, each as a 2-byte length, low byte first, and
+ * its bytes:
  *
- *   1 check   file
- *   2 build   file, buffer
- *   3 start   list, B (1 byte), resets, log
- *   4 step    list, state, log, station and reset (2 bytes)
- *   5 run     list, state, log, picks, most (8 bytes, low byte first)
- *   6 undo    list, state, log
- *   7 lights  list, state
- *   8 trace   program, start, picks
+ *   1 check       file
+ *   2 build       file, buffer
+ *   3 start       list, B (1 byte), resets, log
+ *   4 step        list, state, log, station and reset (2 bytes)
+ *   5 run         list, state, log, picks, most (8 bytes, low byte first)
+ *   6 undo        list, state, log
+ *   7 lights      list, state
+ *   8 trace       program, start, picks
+ *   9 readiness   list, state, station (1 byte)
  *
  * A state is 164 bytes: 32 variables of 4, 8 positions of 2, 8 priorities of
  * 2 (two's complement), n, B, m of 2; low bytes first.
@@ -34,6 +36,7 @@
  *   3 number H(state) H(log)           7 number ready in-turn waiting ended
  *   4 number H(state) H(log)             H(the 64 bytes of the rows)
  *                                      8 length H(text)
+ *                                      9 number place
  *
  * H is 7 at first and for each byte b becomes h * 31 + b + 1 mod 2^32.
  */
@@ -44,31 +47,34 @@
 #include "press.h"
 #include "random.h"
 
-enum call { CHECK = 1, BUILD, START, STEP, RUN, UNDO, LIGHTS, TRACE };
+enum call { CHECK = 1, BUILD, START, STEP, RUN, UNDO, LIGHTS, TRACE,
+            READINESS };
 
-enum { STATE_BYTES = 164, MAX_FIELDS = 5, NUMBERS = 16, CALLS = 9,
-       ROUNDS = 75 };
+enum { STATE_BYTES = 164, MAX_FIELDS = 5, NUMBERS = 17, CALLS = 10,
+       ROUNDS = 75, READINESS_ROUNDS = 70, SMALL_LIST = 192 };
 
 static const char *const call_name[CALLS] = {
-    "", "check", "build", "start", "step", "run", "undo", "lights", "trace"
+    "", "check", "build", "start", "step", "run", "undo", "lights", "trace",
+    "readiness"
 };
 
-static const uint8_t field_count[CALLS] = { 0, 1, 2, 4, 4, 5, 3, 2, 3 };
+static const uint8_t field_count[CALLS] = { 0, 1, 2, 4, 4, 5, 3, 2, 3, 3 };
 
-/* The numbers that the document allows each call.  The trace's own buffers
+/* The numbers that the documents allow each call.  The trace's own buffers
  * are never short, its lists and states are sound, 4,096 picks never fill it
  * past the last, and its log is its own: it has no 6, 7, 8, 9, 15. */
 static const uint8_t allowed[CALLS][NUMBERS] = {
-    /*           0  1  2  3  4  5  6  7  8  9 10 11 12 13 14 15 */
+    /*           0  1  2  3  4  5  6  7  8  9 10 11 12 13 14 15 16 */
     { 0 },
     /* check */ { 1, 1, 1, 1, 1, 1 },
     /* build */ { 1, 1, 1, 1, 1, 1, 1 },
     /* start */ { 1, 0, 0, 0, 0, 0, 1, 1, 0, 0, 0, 0, 0, 1 },
-    /* step  */ { 1, 0, 0, 0, 0, 0, 1, 1, 1, 1, 1, 1, 1, 1 },
-    /* run   */ { 1, 1, 0, 0, 0, 0, 1, 1, 1, 1, 1, 1, 1, 1 },
+    /* step  */ { 1, 0, 0, 0, 0, 0, 1, 1, 1, 1, 1, 1, 1, 1, 0, 0, 1 },
+    /* run   */ { 1, 1, 0, 0, 0, 0, 1, 1, 1, 1, 1, 1, 1, 1, 0, 0, 1 },
     /* undo  */ { 1, 0, 0, 0, 0, 0, 0, 1, 1, 0, 0, 0, 0, 0, 1, 1 },
     /* lights*/ { 1, 0, 0, 0, 0, 0, 0, 1, 1 },
-    /* trace */ { 1, 1, 1, 1, 1, 1, 0, 0, 0, 0, 1, 1, 1, 1, 1 }
+    /* trace */ { 1, 1, 1, 1, 1, 1, 0, 0, 0, 0, 1, 1, 1, 1, 1, 0, 1 },
+    /* ready.*/ { 1, 0, 0, 0, 0, 0, 0, 1, 1, 0, 1, 1, 0, 0, 0, 0, 1 }
 };
 
 static void die(const char *why)
@@ -171,7 +177,7 @@ struct one {
 static int take_case(struct one *c, const uint8_t *bytes, size_t len,
                      size_t *at)
 {
-    if (*at >= len || bytes[*at] < CHECK || bytes[*at] > TRACE)
+    if (*at >= len || bytes[*at] < CHECK || bytes[*at] > READINESS)
         return 0;
     memset(c, 0, sizeof *c);
     c->call = bytes[(*at)++];
@@ -199,6 +205,8 @@ static int take_case(struct one *c, const uint8_t *bytes, size_t len,
     case UNDO:
     case LIGHTS:
         return c->f[1].len == STATE_BYTES;
+    case READINESS:
+        return c->f[1].len == STATE_BYTES && c->f[2].len == 1;
     default:
         return 1;
     }
@@ -339,6 +347,16 @@ static uint8_t answer_case(struct one *c, FILE *out)
             fprintf(out, "7 %u %u %u %u %u %lu\n", a.number, a.ready,
                     a.in_turn, a.waiting, a.ended,
                     (unsigned long)hash(&a.rows[0][0], sizeof a.rows));
+        break;
+    }
+    case READINESS: {
+        struct ind_readiness_answer a = ind_readiness(c->f[0].p, c->f[0].len,
+                                                      unpack_state(c->f[1].p),
+                                                      c->f[2].p[0]);
+
+        number = a.number;
+        if (out != NULL)
+            fprintf(out, "9 %u %u\n", a.number, a.place);
         break;
     }
     default: {
@@ -512,6 +530,16 @@ static uint8_t case_lights(struct writer *w, const uint8_t *list, size_t len,
     field(w, list, len);
     state_field(w, s);
     return close_case(w);
+}
+
+static void case_readiness(struct writer *w, const uint8_t *list, size_t len,
+                           const struct ind_state *s, uint8_t station)
+{
+    open_case(w, READINESS);
+    field(w, list, len);
+    state_field(w, s);
+    field(w, &station, 1);
+    close_case(w);
 }
 
 static void case_trace(struct writer *w, const struct sequence *program,
@@ -783,7 +811,8 @@ static void bench_run(struct writer *w)
 }
 
 /* Each refusal of start, step, run, undo, lights and trace by itself, and
- * where two meet, the one that comes first.
+ * where two meet, the one that comes first; readiness stands in a part of its
+ * own below.
  *
  * Which case reaches which number, one for each (many have more):
  *
@@ -792,20 +821,24 @@ static void bench_run(struct writer *w)
  *   start   0 P10; 7 no list; 13 one reset for two stations; 6 a log of 3
  *           bytes for two stations
  *   step    0 P12; 7 no list; 8 m = 4,097; 9 m = 4,096; 6 a log of 5 bytes
- *           for two stations; 10 station 2 of two; 11 P11; 12 P10; 13 reset 3
- *           with B = 2
+ *           for two stations; 10 station 2 of two; 16 the Dryer's station 0
+ *           twice; 11 P11; 12 P10; 13 reset 3 with B = 2
  *   run     0 P10; 1 one byte of picks; 7 the list cut; 8 n = 7; 9 m = 4,096,
  *           and 4,097 picks; 6 a log that ends behind two steps; 10 (2,0)
- *           behind two steps; 11 the Dryer's station 1 first; 12 P10 with the
- *           refused pick in the run; 13 (0,3) behind two steps, B = 2
+ *           behind two steps; 16 the Dryer's station 0 twice; 11 its station 1
+ *           first; 12 P10 with the refused pick in the run; 13 (0,3) behind
+ *           two steps, B = 2
  *   undo    0 P12; 7 the list cut; 8 n = 1; 14 at the start; 15 a log short
  *           by one byte
  *   lights  0 P11; 7 the list cut; 8 n = 3
  *   trace   0 the Dryer's; 1 no program, and one byte of picks; 2 SET of
  *           variable 32; 3 nine stations; 4 a station without a statement; 5
- *           seventeen deep; 10 (2,0) and (255,1); 11 the Dryer's station 1
- *           first; 12 two loops, station 0 twice; 13 no B, and reset 1 with
- *           B = 0; 14 (255,0) first */
+ *           seventeen deep; 10 (2,0) and (255,1); 16 the Dryer's station 0
+ *           twice; 11 its station 1 first; 12 two loops, station 0 twice; 13
+ *           no B, and reset 1 with B = 0; 14 (255,0) first
+ *   readiness
+ *           0 the Dryer's station 0 at the start, 11 its station 1; 16 station
+ *           0 one step later; 7 no list; 8 n = 1; 10 station 2 of two */
 static void refusals(struct writer *w)
 {
     static struct sequence p;
@@ -963,7 +996,7 @@ static void refusals(struct writer *w)
     case_lights(w, x.list, x.len - 16, &s);
     case_lights(w, x.list, x.len, &s);
 
-    /* step, run 11: at AWAIT, at STOP; before 12 and 13 */
+    /* step, run 11 at AWAIT, 16 at STOP; before 12 and 13 */
     dryer(&p);
     load(&x, &p);
     set_going(&x, 0, zeros);
@@ -1366,65 +1399,78 @@ static void random_list(struct rng *g, struct press *x, uint32_t most)
     x->n = n;
 }
 
-/* Hand-made lists, each sound: shared bodies, several STOPs or none, records
- * nobody reaches, targets that cross; then each byte of one list changed, by
- * lights (7 or 0). */
+/* One station, two AWAITs whose bodies end in the same record, a record
+ * inside that nobody reaches, two STOPs. */
+static const uint8_t shared_list[] = {
+    16, 0, 0, 0, 0, 0, 0, 0, 0, 0, 1, 0, 0, 0, 0, 0,
+    9, 0, 0, 0, 0, 0, 0, 0, 0, 0, 2, 0, 3, 0, 0, 0,
+    4, 0, 1, 5, 2, 0, 0, 0, 0, 1, 5, 0, 6, 0, 0, 0,
+    9, 0, 3, 2, 9, 0, 0, 0, 0, 0, 4, 0, 7, 0, 0, 0,
+    3, 4, 5, 1, 0, 0, 0, 0, 0, 1, 5, 0, 0, 0, 0, 0,
+    3, 6, 7, 4, 8, 0, 0, 0, 0, 1, 0, 0, 0, 0, 0, 0,
+    3, 9, 0, 0, 1, 0, 0, 0, 0, 1, 0, 0, 0, 0, 0, 0,
+    4, 0, 6, 1, 1, 0, 0, 0, 0, 0, 8, 0, 9, 0, 0, 0,
+    17, 0, 0, 0, 0, 0, 0, 0, 0, 0, 0, 0, 0, 0, 0, 0,
+    17, 0, 0, 0, 0, 0, 0, 0, 0, 0, 0, 0, 0, 0, 0, 0,
+    3, 10, 0, 0, 1, 0, 0, 0, 0, 1, 0, 0, 0, 0, 0, 0
+};
+
+/* Two stations mixed, no STOP, targets that cross, a SKIP to itself. */
+static const uint8_t mixed_list[] = {
+    16, 0, 0, 0, 0, 0, 0, 0, 0, 0, 5, 0, 0, 0, 0, 0,
+    16, 1, 0, 0, 0, 0, 0, 0, 1, 0, 6, 0, 0, 0, 0, 0,
+    3, 2, 0, 0, 5, 0, 0, 0, 255, 0, 0, 0, 0, 0, 0, 0,
+    4, 0, 2, 3, 3, 0, 0, 0, 0, 0, 5, 0, 7, 0, 0, 0,
+    2, 0, 0, 0, 0, 0, 0, 0, 1, 0, 4, 0, 0, 0, 0, 0,
+    7, 0, 2, 0, 5, 0, 0, 0, 0, 0, 7, 0, 3, 0, 0, 0,
+    3, 2, 2, 3, 1, 0, 0, 0, 1, 0, 8, 0, 0, 0, 0, 0,
+    3, 1, 1, 2, 1, 0, 0, 0, 0, 0, 3, 0, 0, 0, 0, 0,
+    7, 0, 1, 6, 2, 0, 0, 0, 1, 0, 6, 0, 4, 0, 0, 0
+};
+
+/* The smallest sound lists: a STOP, a SKIP to itself. */
+static const uint8_t stop_list[] = {
+    16, 0, 0, 0, 0, 0, 0, 0, 0, 0, 1, 0, 0, 0, 0, 0,
+    17, 0, 0, 0, 0, 0, 0, 0, 0, 0, 0, 0, 0, 0, 0, 0
+};
+
+static const uint8_t skip_list[] = {
+    16, 0, 0, 0, 0, 0, 0, 0, 0, 0, 1, 0, 0, 0, 0, 0,
+    2, 0, 0, 0, 0, 0, 0, 0, 0, 0, 1, 0, 0, 0, 0, 0
+};
+
+/* The hand-made lists, each sound. */
+enum { HANDS = 4 };
+
+static const struct {
+    const uint8_t *list;
+    size_t len;
+    size_t n;
+} hand[HANDS] = {
+    { shared_list, sizeof shared_list, 1 },
+    { mixed_list, sizeof mixed_list, 2 },
+    { stop_list, sizeof stop_list, 1 },
+    { skip_list, sizeof skip_list, 1 }
+};
+
+/* Puts the i-th hand-made list into the press. */
+static void load_hand(struct press *x, size_t i)
+{
+    memcpy(x->list, hand[i].list, hand[i].len);
+    x->len = hand[i].len;
+    x->n = hand[i].n;
+}
+
+/* The hand-made lists: shared bodies, several STOPs or none, records nobody
+ * reaches, targets that cross; then each byte of one list changed, by lights
+ * (7 or 0). */
 static void hand_made(struct writer *w)
 {
     static const uint8_t zeros[8];
     static struct press x;
 
-    /* one station, two AWAITs whose bodies end in the same record, a record
-     * inside that nobody reaches, two STOPs */
-    static const uint8_t shared[] = {
-        16, 0, 0, 0, 0, 0, 0, 0, 0, 0, 1, 0, 0, 0, 0, 0,
-        9, 0, 0, 0, 0, 0, 0, 0, 0, 0, 2, 0, 3, 0, 0, 0,
-        4, 0, 1, 5, 2, 0, 0, 0, 0, 1, 5, 0, 6, 0, 0, 0,
-        9, 0, 3, 2, 9, 0, 0, 0, 0, 0, 4, 0, 7, 0, 0, 0,
-        3, 4, 5, 1, 0, 0, 0, 0, 0, 1, 5, 0, 0, 0, 0, 0,
-        3, 6, 7, 4, 8, 0, 0, 0, 0, 1, 0, 0, 0, 0, 0, 0,
-        3, 9, 0, 0, 1, 0, 0, 0, 0, 1, 0, 0, 0, 0, 0, 0,
-        4, 0, 6, 1, 1, 0, 0, 0, 0, 0, 8, 0, 9, 0, 0, 0,
-        17, 0, 0, 0, 0, 0, 0, 0, 0, 0, 0, 0, 0, 0, 0, 0,
-        17, 0, 0, 0, 0, 0, 0, 0, 0, 0, 0, 0, 0, 0, 0, 0,
-        3, 10, 0, 0, 1, 0, 0, 0, 0, 1, 0, 0, 0, 0, 0, 0
-    };
-    /* two stations mixed, no STOP, targets that cross, a SKIP to itself */
-    static const uint8_t mixed[] = {
-        16, 0, 0, 0, 0, 0, 0, 0, 0, 0, 5, 0, 0, 0, 0, 0,
-        16, 1, 0, 0, 0, 0, 0, 0, 1, 0, 6, 0, 0, 0, 0, 0,
-        3, 2, 0, 0, 5, 0, 0, 0, 255, 0, 0, 0, 0, 0, 0, 0,
-        4, 0, 2, 3, 3, 0, 0, 0, 0, 0, 5, 0, 7, 0, 0, 0,
-        2, 0, 0, 0, 0, 0, 0, 0, 1, 0, 4, 0, 0, 0, 0, 0,
-        7, 0, 2, 0, 5, 0, 0, 0, 0, 0, 7, 0, 3, 0, 0, 0,
-        3, 2, 2, 3, 1, 0, 0, 0, 1, 0, 8, 0, 0, 0, 0, 0,
-        3, 1, 1, 2, 1, 0, 0, 0, 0, 0, 3, 0, 0, 0, 0, 0,
-        7, 0, 1, 6, 2, 0, 0, 0, 1, 0, 6, 0, 4, 0, 0, 0
-    };
-    /* the smallest sound lists: a STOP, a SKIP to itself */
-    static const uint8_t stop[] = {
-        16, 0, 0, 0, 0, 0, 0, 0, 0, 0, 1, 0, 0, 0, 0, 0,
-        17, 0, 0, 0, 0, 0, 0, 0, 0, 0, 0, 0, 0, 0, 0, 0
-    };
-    static const uint8_t skip[] = {
-        16, 0, 0, 0, 0, 0, 0, 0, 0, 0, 1, 0, 0, 0, 0, 0,
-        2, 0, 0, 0, 0, 0, 0, 0, 0, 0, 1, 0, 0, 0, 0, 0
-    };
-    static const struct {
-        const uint8_t *list;
-        size_t len;
-        size_t n;
-    } hand[] = {
-        { shared, sizeof shared, 1 },
-        { mixed, sizeof mixed, 2 },
-        { stop, sizeof stop, 1 },
-        { skip, sizeof skip, 1 }
-    };
-
-    for (size_t i = 0; i < 4; i++) {
-        memcpy(x.list, hand[i].list, hand[i].len);
-        x.len = hand[i].len;
-        x.n = hand[i].n;
+    for (size_t i = 0; i < HANDS; i++) {
+        load_hand(&x, i);
         case_start(w, x.list, x.len, 1, zeros, x.n, zeros, 8);
         set_going(&x, 1, zeros);
         if (case_lights(w, x.list, x.len, &x.state) != IND_FINE)
@@ -1454,10 +1500,8 @@ static void hand_made(struct writer *w)
 
     /* each byte changed; each target of all lists but the first put at each
      * place, an INIT's too */
-    for (size_t i = 0; i < 4; i++) {
-        memcpy(x.list, hand[i].list, hand[i].len);
-        x.len = hand[i].len;
-        x.n = hand[i].n;
+    for (size_t i = 0; i < HANDS; i++) {
+        load_hand(&x, i);
         set_going(&x, 1, zeros);
         for (size_t at = 0; at < x.len; at++) {
             uint8_t was = x.list[at];
@@ -1632,6 +1676,359 @@ static void states(struct writer *w)
     for (uint16_t m = 4094; m <= 4098; m++) {
         s.m = m;
         case_lights(w, x.list, x.len, &s);
+    }
+}
+
+/* ------------------------------------------------------------------ */
+/* Ready, ended, waiting                                              */
+/* ------------------------------------------------------------------ */
+
+/* One station that ends, one that waits for ever, one that loops. */
+static void purge(struct sequence *p)
+{
+    p->len = 0;
+    add_bare(p, IND_STATION);
+    add_bare(p, IND_SKIP);
+    add_bare(p, IND_STATION);
+    add(p, IND_AWAIT, 0, 0, 3, 1);
+    add_bare(p, IND_SKIP);
+    add_bare(p, IND_END);
+    add_bare(p, IND_STATION);
+    add(p, IND_WHILE, 0, 0, 4, 0);
+    add_bare(p, IND_SKIP);
+    add_bare(p, IND_OD);
+}
+
+/* Readiness of each station, of station n and of 255. */
+static void each_station(struct writer *w, const struct press *x,
+                         const struct ind_state *s)
+{
+    for (size_t i = 0; i <= x->n; i++)
+        case_readiness(w, x->list, x->len, s, (uint8_t)i);
+    case_readiness(w, x->list, x->len, s, 255);
+}
+
+/* The longest list, with an AWAIT in the highest place where one can be: its
+ * body is the last record.  Before it, SKIPs that lead to it. */
+static void late_await(struct press *x)
+{
+    static const uint8_t init[IND_RECORD] = { IND_INIT };
+    static const uint8_t skip[IND_RECORD] = { IND_SKIP };
+    static const uint8_t await[IND_RECORD] = { IND_AWAIT, 0, 0, 1 };
+    size_t at = IND_MAX_ITEMS - 2;
+
+    put_item(x->list, init, 0, 0, at, 0);
+    for (size_t i = 1; i < at; i++)
+        put_item(x->list + IND_ITEM * i, skip, 0, 0, i + 1, 0);
+    put_item(x->list + IND_ITEM * at, await, 0, 0, at + 1, 1);
+    put_item(x->list + IND_ITEM * (at + 1), skip, 0, 1, 0, 0);
+    x->len = IND_ITEM * IND_MAX_ITEMS;
+    x->n = 1;
+}
+
+/* Readiness: 0, 16 and 11 with the place, then 7, 8 and 10 and which of them
+ * comes first. */
+static void readiness(struct writer *w)
+{
+    static struct sequence p;
+    static struct press x;
+    static const uint8_t zeros[8];
+    static const uint8_t dryer_picks[] = { 0, 0, 1, 0 };
+    struct ind_state s;
+
+    /* the Dryer: station 1 waits, is ready, has ended, and back */
+    dryer(&p);
+    load(&x, &p);
+    set_going(&x, 0, zeros);
+    each_station(w, &x, &x.state);
+    go(&x, dryer_picks, 1);
+    each_station(w, &x, &x.state);
+    go(&x, dryer_picks + 2, 1);
+    each_station(w, &x, &x.state);
+    x.state = ind_undo(x.list, x.len, x.state, x.log, sizeof x.log).state;
+    each_station(w, &x, &x.state);
+
+    /* 7, before 8 and 10: no list, half a record, a record cut off, a STOP
+     * with a target */
+    s = x.state;
+    s.n = 1;
+    case_readiness(w, NULL, 0, &x.state, 0);
+    case_readiness(w, x.list, x.len - 8, &x.state, 0);
+    case_readiness(w, x.list, x.len - 16, &x.state, 1);
+    case_readiness(w, x.list, x.len - 16, &s, 1);
+    case_readiness(w, x.list, x.len - 16, &x.state, 2);
+    case_readiness(w, x.list, x.len - 16, &s, 255);
+    x.list[IND_ITEM * 3 + 10] = 3;
+    case_readiness(w, x.list, x.len, &x.state, 0);
+    x.list[IND_ITEM * 3 + 10] = 0;
+    /* 8, before 10: n, m, the other station's position, the station's own, a
+     * priority, entries from n on */
+    for (int i = 0; i < 8; i++) {
+        s = x.state;
+        switch (i) {
+        case 0:
+            s.n = 1;
+            break;
+        case 1:
+            s.n = 3;
+            break;
+        case 2:
+            s.m = 4097;
+            break;
+        case 3:
+            s.pos[0] = 5;                         /* inside */
+            break;
+        case 4:
+            s.pos[1] = 3;                         /* the other's STOP */
+            break;
+        case 5:
+            s.pri[0] = 1;
+            break;
+        case 6:
+            s.pri[1] = -2;
+            break;
+        default:
+            s.pos[2] = 3;
+            break;
+        }
+        case_readiness(w, x.list, x.len, &s, 1);
+        case_readiness(w, x.list, x.len, &s, 2);
+    }
+
+    /* all three cases with m = 4,096, where no step is left, and 8 above;
+     * whose turn it is does not matter */
+    purge(&p);
+    load(&x, &p);
+    set_going(&x, 3, zeros);
+    go(&x, zeros, 1);
+    s = x.state;
+    for (uint16_t m = 4096; m <= 4097; m++) {
+        s.m = m;
+        for (uint8_t station = 0; station < 3; station++)
+            case_readiness(w, x.list, x.len, &s, station);
+    }
+    for (uint8_t station = 0; station < 3; station++) {
+        s = x.state;
+        s.pri[station] = 3;
+        case_readiness(w, x.list, x.len, &s, station);
+        s.pri[station] = -2;
+        case_readiness(w, x.list, x.len, &s, station);
+    }
+    s.pri[1] = 3;
+    s.var[0] = 1;                                 /* ready, not in turn */
+    case_readiness(w, x.list, x.len, &s, 1);
+
+    /* AWAIT by each op: below, equal, above, and numbers of 32 bits */
+    for (uint8_t op = 0; op < 8; op++) {
+        static const uint32_t pair[4][2] = {
+            { 4, 5 }, { 5, 5 }, { 6, 5 }, { UINT32_MAX, 0x7FFFFFFF }
+        };
+
+        for (int i = 0; i < 4; i++) {
+            p.len = 0;
+            add_bare(&p, IND_STATION);
+            add(&p, IND_AWAIT, 0, 2, op, op < 4 ? pair[i][1] : 31);
+            add_bare(&p, IND_SKIP);
+            add_bare(&p, IND_END);
+            load(&x, &p);
+            set_going(&x, 0, zeros);
+            x.state.var[2] = pair[i][0];
+            x.state.var[31] = pair[i][1];
+            case_readiness(w, x.list, x.len, &x.state, 0);
+        }
+    }
+
+    /* IF and WHILE never wait: here they fail */
+    for (int i = 0; i < 2; i++) {
+        p.len = 0;
+        add_bare(&p, IND_STATION);
+        add(&p, i == 0 ? IND_IF : IND_WHILE, 0, 0, 1, 0);
+        add_bare(&p, IND_SKIP);
+        if (i == 0) {
+            add_bare(&p, IND_ELSE);
+            add_bare(&p, IND_SKIP);
+        }
+        add_bare(&p, i == 0 ? IND_FI : IND_OD);
+        load(&x, &p);
+        set_going(&x, 0, zeros);
+        case_readiness(w, x.list, x.len, &x.state, 0);
+    }
+
+    /* one station, four, seven: the last waits, and one more there is not */
+    for (int n = 1; n <= 7; n += 3) {
+        p.len = 0;
+        for (int i = 0; i < n; i++) {
+            add_bare(&p, IND_STATION);
+            if (i + 1 == n)
+                add(&p, IND_AWAIT, 0, 0, 0, (uint32_t)n);
+            add_bare(&p, IND_SKIP);
+            if (i + 1 == n)
+                add_bare(&p, IND_END);
+        }
+        load(&x, &p);
+        set_going(&x, 0, zeros);
+        case_readiness(w, x.list, x.len, &x.state, (uint8_t)(n - 1));
+        case_readiness(w, x.list, x.len, &x.state, (uint8_t)n);
+    }
+    /* eight stations: each ready, waiting or ended by turns */
+    p.len = 0;
+    for (int i = 0; i < 8; i++) {
+        add_bare(&p, IND_STATION);
+        add(&p, IND_AWAIT, 0, (uint8_t)(i % 2), 0, 0);
+        add_bare(&p, IND_SKIP);
+        add_bare(&p, IND_END);
+    }
+    load(&x, &p);
+    set_going(&x, 0, zeros);
+    x.state.var[1] = 1;
+    x.state.pos[2] += 2;
+    x.state.pos[7] += 2;
+    each_station(w, &x, &x.state);
+
+    /* lists that someone else wrote, the station at each place: two STOPs,
+     * none, one that is all; the AWAITs hold, then fail */
+    for (size_t i = 0; i < HANDS; i++) {
+        load_hand(&x, i);
+        set_going(&x, 1, zeros);
+        for (size_t station = 0; station < x.n; station++) {
+            for (uint16_t place = 0; place <= x.len / IND_ITEM; place++) {
+                s = x.state;
+                s.pos[station] = place;
+                case_readiness(w, x.list, x.len, &s, (uint8_t)station);
+                s.var[0] = 1;
+                s.var[3] = 9;
+                if (ind_lights(x.list, x.len, s).waiting != 0)
+                    case_readiness(w, x.list, x.len, &s, (uint8_t)station);
+            }
+        }
+    }
+
+    /* place 1,030, which is the highest */
+    late_await(&x);
+    set_going(&x, 0, zeros);
+    case_readiness(w, x.list, x.len, &x.state, 0);
+}
+
+/* Step, run, undo and trace where a station has ended and where one waits. */
+static void endings(struct writer *w)
+{
+    static struct sequence p;
+    static struct press x;
+    static const uint8_t zeros[16];
+    static const uint8_t picks[] = { 0, 0, 2, 0, 2, 0 };
+    static const uint8_t both_picks[] = { 0, 0, 1, 0 };
+    uint8_t six[6], log[12];
+    struct ind_state s;
+    size_t full;
+
+    /* run 16 and 11 behind two steps; not where the number ends before them;
+     * 6 before them */
+    purge(&p);
+    load(&x, &p);
+    set_going(&x, 0, zeros);
+    for (uint8_t i = 0; i <= 1; i++) {
+        memcpy(six, picks, 6);
+        six[4] = i;
+        case_run(w, x.list, x.len, &x.state, x.log, 12, six, 6, 9);
+        case_run(w, x.list, x.len, &x.state, x.log, 12, six, 6, 3);
+        case_run(w, x.list, x.len, &x.state, x.log, 12, six, 6, 2);
+        case_run(w, x.list, x.len, &x.state, x.log, 11, six, 6, 9);
+        case_run(w, x.list, x.len, &x.state, x.log, 10, six, 6, 9);
+    }
+
+    /* step 16 and 11: by themselves, then with everything after them wrong
+     * too, then with one thing before them wrong too; run the same */
+    go(&x, picks, 1);
+    full = log_length(&x, 1);
+    for (uint8_t i = 0; i <= 1; i++) {
+        uint8_t pick[2];
+
+        case_step(w, x.list, x.len, &x.state, x.log, full, i, 0);
+        s = x.state;
+        s.b = 9;
+        s.pri[i] = -2;
+        case_step(w, x.list, x.len, &s, x.log, full, i, 10);   /* and 13 */
+        s.pri[i] = 9;
+        case_step(w, x.list, x.len, &s, x.log, full, i, 9);    /* and 12 */
+        case_step(w, x.list, x.len, &s, x.log, full, i, 10);   /* and both */
+        case_step(w, x.list, x.len, &s, x.log, full - 1, i, 10);
+        case_step(w, x.list, x.len, &s, NULL, 0, i, 10);
+        pick[0] = i;
+        pick[1] = 10;
+        case_run(w, x.list, x.len, &s, x.log, full, pick, 2, 1);
+        case_run(w, x.list, x.len, &s, x.log, full, pick, 2, 0);
+        case_run(w, x.list, x.len, &s, x.log, full - 1, pick, 2, 1);
+        s.m = 4096;
+        case_step(w, x.list, x.len, &s, x.log, full, i, 10);
+        case_step(w, x.list, x.len, &s, NULL, 0, i, 10);
+        case_run(w, x.list, x.len, &s, NULL, 0, pick, 2, 1);
+        s.m = 4097;
+        case_step(w, x.list, x.len, &s, x.log, full, i, 10);
+        case_run(w, x.list, x.len, &s, x.log, full, pick, 2, 1);
+        case_step(w, x.list, x.len - 16, &s, x.log, full, i, 10);
+        case_run(w, x.list, x.len - 16, &s, x.log, full, pick, 2, 1);
+    }
+    case_step(w, x.list, x.len, &x.state, x.log, full, 2, 0);
+
+    /* undo 15 by a pick of an ended and of a waiting station, at each step;
+     * the record withdrawn is not judged */
+    go(&x, picks + 2, 2);
+    full = log_length(&x, 0);
+    for (size_t at = 6; at < full; at += 2) {
+        for (uint8_t i = 0; i <= 1; i++) {
+            memcpy(log, x.log, full);
+            log[at] = i;
+            case_undo(w, x.list, x.len, &x.state, log, full);
+        }
+    }
+
+    /* 10 where every station has ended */
+    stations(&p, 2);
+    load(&x, &p);
+    set_going(&x, 0, zeros);
+    go(&x, both_picks, 2);
+    full = log_length(&x, 1);
+    for (uint8_t i = 0; i <= 3; i++) {
+        case_step(w, x.list, x.len, &x.state, x.log, full, i, 0);
+        memcpy(six, both_picks, 4);
+        six[4] = i;
+        six[5] = 0;
+        case_run(w, x.list, x.len, &x.state, x.log, full, six + 4, 2, 1);
+        case_trace(w, &p, zeros, 3, six, 6);
+    }
+    case_step(w, x.list, x.len, &x.state, x.log, full, 255, 0);
+    case_undo(w, x.list, x.len, &x.state, x.log, full);
+
+    /* each STOP of a list that someone else wrote */
+    load_hand(&x, 0);
+    set_going(&x, 1, zeros);
+    for (uint16_t place = 8; place <= 9; place++) {
+        x.state.pos[0] = place;
+        case_step(w, x.list, x.len, &x.state, x.log, 4, 0, 0);
+        case_run(w, x.list, x.len, &x.state, x.log, 4, zeros, 2, 1);
+    }
+
+    /* trace 16 and 11: behind steps, behind an undo, before 13 */
+    for (uint8_t i = 0; i <= 1; i++) {
+        static const uint8_t undone[10] = { 0, 0, 2, 0, 255, 0 };
+        uint8_t ten[10];
+
+        purge(&p);
+        memcpy(six, picks, 6);
+        six[4] = i;
+        case_trace(w, &p, zeros, 4, six, 6);
+        six[5] = 1;
+        case_trace(w, &p, zeros, 4, six, 6);
+        memcpy(ten, undone, 10);
+        ten[6] = i;
+        case_trace(w, &p, zeros, 4, ten, 10);
+        case_trace(w, &p, zeros, 4, ten + 6, 4);
+        dryer(&p);
+        ten[2] = 1;
+        case_trace(w, &p, zeros, 3, ten, 10);
+        six[2] = i;
+        case_trace(w, &p, zeros, 3, six, 4);
+        case_trace(w, &p, zeros, 3, six, 6);
     }
 }
 
@@ -2034,6 +2431,71 @@ static void random_press(struct rng *g, struct press *x)
     }
 }
 
+/* Whether the list has a record at which a station can wait. */
+static int has_await(const struct press *x)
+{
+    for (size_t at = 0; at < x->len; at += IND_ITEM)
+        if (x->list[at] == IND_AWAIT)
+            return 1;
+    return 0;
+}
+
+/* A station, mostly one of the list's, and often one that waits. */
+static uint8_t random_station(struct rng *g, const struct press *x,
+                              const struct ind_state *s)
+{
+    uint8_t waiting = ind_lights(x->list, x->len, *s).waiting;
+    uint8_t station = (uint8_t)below(g, (uint32_t)x->n);
+
+    if (chance(g, 5))
+        return (uint8_t)draw(g);
+    if (chance(g, 5))
+        return (uint8_t)x->n;
+    if (waiting != 0 && chance(g, 70))
+        while ((waiting >> station & 1) == 0)
+            station = (uint8_t)((station + 1) % IND_STATIONS);
+    return station;
+}
+
+/* One round of readiness: in a run, in a state that no call made, and with a
+ * fault in the list or a state of any bytes; of lists of at most `most`
+ * bytes. */
+static void random_readiness(struct writer *w, struct rng *g, size_t most)
+{
+    static struct press x;
+
+    for (int what = 0; what < 3; what++) {
+        uint8_t bytes[STATE_BYTES], resets[IND_STATIONS], picks[40];
+        struct ind_state s;
+        uint8_t station;
+        size_t count;
+
+        do
+            random_press(g, &x);
+        while (x.len > most || (!has_await(&x) && chance(g, 90)));
+        s = random_state(g, &x);
+        if (what == 0) {
+            for (size_t i = 0; i < IND_STATIONS; i++)
+                resets[i] = (uint8_t)below(g, s.b + 1u);
+            set_going(&x, s.b, resets);
+            count = below(g, 20);
+            count = random_picks(g, &x, picks, count, 98);
+            go(&x, picks, count);
+            s = x.state;
+        } else if (what == 2 && chance(g, 80)) {
+            damage(g, x.list, &x.len, IND_ITEM, sizeof x.list);
+        } else if (what == 2) {
+            for (size_t i = 0; i < sizeof bytes; i++)
+                bytes[i] = (uint8_t)(chance(g, 50) ? 0 : draw(g));
+            s = unpack_state(bytes);
+            if (chance(g, 50))
+                s.n = (uint8_t)x.n;
+        }
+        station = random_station(g, &x, &s);
+        case_readiness(w, x.list, x.len, &s, station);
+    }
+}
+
 static void random_traces(struct writer *w, struct rng *g, struct press *x)
 {
     static struct sequence p;
@@ -2114,12 +2576,12 @@ static int report(const struct writer *w)
 {
     int wrong = 0;
 
-    fprintf(stderr, "%-7s", "");
+    fprintf(stderr, "%-9s", "");
     for (int i = 0; i < NUMBERS; i++)
         fprintf(stderr, "%8d", i);
     fputc('\n', stderr);
-    for (int call = CHECK; call <= TRACE; call++) {
-        fprintf(stderr, "%-7s", call_name[call]);
+    for (int call = CHECK; call <= READINESS; call++) {
+        fprintf(stderr, "%-9s", call_name[call]);
         for (int i = 0; i < NUMBERS; i++) {
             unsigned long count = w->table[call][i];
 
@@ -2139,10 +2601,19 @@ static int report(const struct writer *w)
     return wrong;
 }
 
+/* The generator of the readiness cases, one of their own: the other cases are
+ * the same without them. */
+static struct rng readiness_rng(uint64_t seed)
+{
+    struct rng g = { seed ^ UINT64_C(0x5EED0F0011001600) };
+
+    return g;
+}
+
 static int write_stream(uint64_t seed)
 {
     static struct writer w;
-    struct rng g = { seed };
+    struct rng g = { seed }, h = readiness_rng(seed);
 
     w.out = stdout;
     bench_check(&w);
@@ -2155,6 +2626,10 @@ static int write_stream(uint64_t seed)
     states(&w);
     for (int i = 0; i < ROUNDS; i++)
         random_round(&w, &g);
+    readiness(&w);
+    endings(&w);
+    for (int i = 0; i < READINESS_ROUNDS; i++)
+        random_readiness(&w, &h, SMALL_LIST);
     if (fflush(stdout) != 0)
         die("cannot write");
     return report(&w) != 0;
@@ -2163,11 +2638,13 @@ static int write_stream(uint64_t seed)
 static int write_random(uint64_t seed, unsigned long rounds)
 {
     static struct writer w;
-    struct rng g = { seed };
+    struct rng g = { seed }, h = readiness_rng(seed);
 
     w.out = stdout;
-    while (rounds-- > 0)
+    while (rounds-- > 0) {
         random_round(&w, &g);
+        random_readiness(&w, &h, SIZE_MAX);
+    }
     if (fflush(stdout) != 0)
         die("cannot write");
     report(&w);

@@ -28,7 +28,10 @@ struct call {
 
 static struct field ours[FIELDS], theirs[FIELDS];
 
-static const int field_counts[] = {0, 1, 2, 4, 4, 5, 3, 2, 3};
+/* The calls are numbered from 1; the trace is no call of the library. */
+enum { TRACE = 8, CALLS = 9 };
+
+static const int field_counts[] = {0, 1, 2, 4, 4, 5, 3, 2, 3, 3};
 
 static uint32_t word(const uint8_t *p)
 {
@@ -129,6 +132,13 @@ static int agree(const struct call *c)
             && r.ended == t.ended && memcmp(r.rows, t.rows, sizeof r.rows) == 0;
         break;
     }
+    case 9: {
+        press_told r = press_readiness(our_state(a[1].bytes), a[0].bytes, a[0].len, a[2].bytes[0]);
+        struct ind_readiness_answer t =
+            ind_readiness(b[0].bytes, b[0].len, their_state(b[1].bytes), b[2].bytes[0]);
+        same = r.number == t.number && r.place == t.place;
+        break;
+    }
     default:
         break;
     }
@@ -137,11 +147,11 @@ static int agree(const struct call *c)
     return same;
 }
 
-/* Bytes that a field must keep: a state, B, a pick and a most-steps number have a fixed length. */
+/* Bytes that a field must keep: a state, B, a pick, a most-steps number and a station have a fixed length. */
 static int fixed(const struct call *c, int i)
 {
     return (c->number >= 4 && i == 1) || (c->number == 3 && i == 1) || (c->number == 4 && i == 3)
-        || (c->number == 5 && i == 4);
+        || (c->number == 5 && i == 4) || (c->number == 9 && i == 2);
 }
 
 /* Cuts bytes off the ends of the fields and sets bytes to zero while the two still differ. */
@@ -196,7 +206,7 @@ int main(int argc, char **argv)
         return 2;
     }
     while ((c.number = fgetc(stream)) != EOF) {
-        if (c.number < 1 || c.number > 8) {
+        if (c.number < 1 || c.number > CALLS) {
             fprintf(stderr, "compare: no such call: %d\n", c.number);
             return 2;
         }
@@ -209,7 +219,7 @@ int main(int argc, char **argv)
                 return 2;
             }
         }
-        if (c.number > 7) {
+        if (c.number == TRACE) {
             passed_by++;
             continue;
         }

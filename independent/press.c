@@ -1,7 +1,7 @@
 /*
  * press.c - see press.h.
  *
- * Sentences in quotation marks are the document's own.
+ * Sentences in quotation marks are the documents' own.
  */
 #include "press.h"
 
@@ -709,26 +709,40 @@ static const uint8_t *next_step(const struct list *list,
     return item(list, state->pos[i]);
 }
 
+/* "ready, ended, or waiting with the record number where it waits": ended is
+ * at a STOP, waiting is at an AWAIT whose condition fails, and there the
+ * record number is the station's position.  "a station is ready when not at
+ * STOP and, if at AWAIT, its condition holds". */
+static struct ind_readiness_answer readiness(const struct list *list,
+                                             const struct ind_state *state,
+                                             size_t i)
+{
+    struct ind_readiness_answer answer = { IND_FINE, 0 };
+    const uint8_t *r = next_step(list, state, i);
+
+    if (kind_of(r) == IND_STOP) {
+        answer.number = IND_ENDED;
+    } else if (kind_of(r) == IND_AWAIT && !holds(r, state->var)) {
+        answer.number = IND_NOT_READY;
+        answer.place = state->pos[i];
+    }
+    return answer;
+}
+
 /* Whose turn it is. */
 struct turn {
     uint8_t ready;
     uint8_t in_turn;
 };
 
-/* "a station is ready when not at STOP and, if at AWAIT, its condition
- * holds"; "in turn, that is ready with no ready station of lower priority
- * number". */
+/* "in turn, that is ready with no ready station of lower priority number" */
 static struct turn judge(const struct list *list, const struct ind_state *state)
 {
     struct turn turn = { 0, 0 };
     int lowest = INT16_MAX;
 
     for (size_t i = 0; i < list->n; i++) {
-        const uint8_t *r = next_step(list, state, i);
-
-        if (kind_of(r) == IND_STOP)
-            continue;
-        if (kind_of(r) == IND_AWAIT && !holds(r, state->var))
+        if (readiness(list, state, i).number != IND_FINE)
             continue;
         turn.ready |= (uint8_t)(1u << i);
         if (state->pri[i] < lowest)
@@ -740,8 +754,8 @@ static struct turn judge(const struct list *list, const struct ind_state *state)
     return turn;
 }
 
-/* Tests 10 to 13 of a step, and the step.  Answers the refusal or 0; refused,
- * the state stays.  m is at most 4,095. */
+/* Tests 10, 16 and 11 to 13 of a step, and the step.  Answers the refusal or
+ * 0; refused, the state stays.  m is at most 4,095. */
 static uint8_t advance(const struct list *list, struct ind_state *state,
                        uint8_t station, uint8_t reset)
 {
@@ -752,7 +766,7 @@ static uint8_t advance(const struct list *list, struct ind_state *state,
         return IND_COMPONENT;
     turn = judge(list, state);            /* "Readiness is judged before the */
     if ((turn.ready >> station & 1) == 0) /* step." */
-        return IND_NOT_READY;
+        return readiness(list, state, station).number;  /* 16 or 11 */
     if ((turn.in_turn >> station & 1) == 0)
         return IND_TURN;
     if (reset > state->b)
@@ -787,8 +801,8 @@ static uint8_t advance(const struct list *list, struct ind_state *state,
     return IND_FINE;
 }
 
-/* Tests 9, 6 and 10 to 13 of a step, the step and its log record.  Answers
- * the refusal or 0; refused, the state and the log stay. */
+/* Tests 9, 6, 10, 16 and 11 to 13 of a step, the step and its log record.
+ * Answers the refusal or 0; refused, the state and the log stay. */
 static uint8_t logged_step(const struct list *list, struct ind_state *state,
                            uint8_t *log, size_t loglen,
                            uint8_t station, uint8_t reset)
@@ -863,8 +877,8 @@ struct ind_state_answer ind_start(const uint8_t *bytes, size_t len, uint8_t b,
     return answer;
 }
 
-/* Answers the state after the step and writes its log record.  "Step's order
- * is 7, 8, 9, 6, 10, 11, 12, 13."  Refused, the state given, and the log
+/* Answers the state after the step and writes its log record.  Refused (7, 8,
+ * 9, 6, 10, 16, 11, 12, 13, in this order), the state given, and the log
  * stays. */
 struct ind_state_answer ind_step(const uint8_t *bytes, size_t len,
                                  struct ind_state state,
@@ -969,6 +983,26 @@ struct ind_state_answer ind_undo(const uint8_t *bytes, size_t len,
     return answer;
 }
 
+/* Answers whether the station is ready, ended, or waiting and where.  Refused
+ * (7, 8, 10, in this order), that number and place 0. */
+struct ind_readiness_answer ind_readiness(const uint8_t *bytes, size_t len,
+                                          struct ind_state state,
+                                          uint8_t station)
+{
+    struct ind_readiness_answer answer = { IND_FINE, 0 };
+    struct list list;
+
+    if (!sound_list(&list, bytes, len))
+        answer.number = IND_LIST;
+    else if (!sound_state(&list, &state))
+        answer.number = IND_STATE;
+    else if (station >= list.n)
+        answer.number = IND_COMPONENT;
+    else
+        answer = readiness(&list, &state, station);
+    return answer;
+}
+
 /* ------------------------------------------------------------------ */
 /* Lights                                                             */
 /* ------------------------------------------------------------------ */
@@ -1043,15 +1077,15 @@ struct ind_lights_answer ind_lights(const uint8_t *bytes, size_t len,
     answer.in_turn = turn.in_turn;
     for (size_t i = 0; i < list.n; i++) {
         const uint8_t *r = next_step(&list, &state, i);
+        uint8_t told = readiness(&list, &state, i).number;
         uint8_t bit = (uint8_t)(1u << i);
 
-        if (kind_of(r) == IND_STOP)
+        if (told == IND_ENDED)
             answer.ended |= bit;
-        if (kind_of(r) == IND_AWAIT) {
-            if (!holds(r, state.var))
-                answer.waiting |= bit;
+        if (told == IND_NOT_READY)
+            answer.waiting |= bit;
+        if (kind_of(r) == IND_AWAIT)
             touch_body(&answer, &list, t1_of(r), bit);
-        }
         touch(&answer, r, bit);
     }
     return answer;

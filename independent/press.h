@@ -45,7 +45,8 @@ enum ind_refusal {
     IND_TURN = 12,
     IND_RESET = 13,
     IND_EMPTY = 14,
-    IND_LOG = 15
+    IND_LOG = 15,
+    IND_ENDED = 16
 };
 
 enum ind_limit {
@@ -96,6 +97,13 @@ struct ind_run_answer {
     size_t steps;
 };
 
+/* Ready: 0 and place 0.  Ended: 16 and place 0.  Waiting: 11 and the record
+ * number of the list where the station waits.  Or a refusal and place 0. */
+struct ind_readiness_answer {
+    uint8_t number;
+    uint16_t place;
+};
+
 struct ind_lights_answer {
     uint8_t number;
     uint8_t ready;
@@ -127,6 +135,10 @@ struct ind_run_answer ind_run(const uint8_t *list, size_t len,
 struct ind_state_answer ind_undo(const uint8_t *list, size_t len,
                                  struct ind_state state,
                                  const uint8_t *log, size_t loglen);
+
+struct ind_readiness_answer ind_readiness(const uint8_t *list, size_t len,
+                                          struct ind_state state,
+                                          uint8_t station);
 
 struct ind_lights_answer ind_lights(const uint8_t *list, size_t len,
                                     struct ind_state state);

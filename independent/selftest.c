@@ -1,5 +1,5 @@
 /*
- * selftest.c - the document's bench cases and some properties.
+ * selftest.c - the documents' bench cases and some properties.
  *
  * Prints each check that failed, then a count; ends with 1 if any failed.
  */
@@ -370,6 +370,348 @@ static void test_dryer(void)
     CHECK(len == 17 && memcmp(out, "0 1 1 0 0\nend 14\n", 17) == 0);
 }
 
+/* ------------------------------------------------------------------ */
+/* Ready, ended, waiting                                              */
+/* ------------------------------------------------------------------ */
+
+/* Whether readiness tells this of the station. */
+static int told(const uint8_t *list, size_t len, struct ind_state state,
+                uint8_t station, uint8_t number, uint16_t place)
+{
+    struct ind_readiness_answer a = ind_readiness(list, len, state, station);
+
+    return a.number == number && a.place == place;
+}
+
+/* Whether the trace of the sequence is this text. */
+static int traced(const struct sequence *p, const uint8_t *start, size_t slen,
+                  const uint8_t *picks, size_t klen, const char *want)
+{
+    uint8_t out[256];
+    size_t len = ind_trace(p->bytes, p->len, start, slen, picks, klen, out,
+                           sizeof out);
+
+    return len == strlen(want) && memcmp(out, want, len) == 0;
+}
+
+/* One station that ends, one that waits for ever, one that loops: records
+ * 3 and 4, 5 to 7, 8 to 10 of the list. */
+static void purge(struct sequence *p)
+{
+    p->len = 0;
+    add_bare(p, IND_STATION);
+    add_bare(p, IND_SKIP);
+    add_bare(p, IND_STATION);
+    add(p, IND_AWAIT, 0, 0, 3, 1);     /* AWAIT v0 is at least 1 */
+    add_bare(p, IND_SKIP);
+    add_bare(p, IND_END);
+    add_bare(p, IND_STATION);
+    add(p, IND_WHILE, 0, 0, 4, 0);     /* WHILE v0 = v0 */
+    add_bare(p, IND_SKIP);
+    add_bare(p, IND_OD);
+}
+
+/* Step, run, undo and the trace tell ended from waiting. */
+static void test_ended(void)
+{
+    static struct sequence p;
+    static uint8_t whole[8300];
+    uint8_t list[IND_ITEM * 11], log[16], before[16];
+    static const uint8_t resets[3] = { 0, 0, 0 };
+    static const uint8_t start[4] = { 0, 0, 0, 0 };
+    static const uint8_t end_0[6] = { 0, 0, 2, 0, 0, 0 };
+    static const uint8_t wait_1[6] = { 0, 0, 2, 0, 1, 0 };
+    static const uint8_t withdrawn[8] = { 0, 0, 255, 0, 0, 0, 0, 0 };
+    size_t len = sizeof list;
+    struct ind_state_answer first, s, t;
+    struct ind_run_answer r;
+    struct ind_lights_answer l;
+    struct ind_state u;
+
+    purge(&p);
+    CHECK(ind_build(p.bytes, p.len, list, len).count == 11);
+    memset(log, 0xEE, sizeof log);
+    first = ind_start(list, len, 0, resets, 3, log, sizeof log);
+    s = ind_step(list, len, first.state, log, sizeof log, 0, 0);
+    CHECK(s.number == IND_FINE && s.state.pos[0] == 4);
+
+    /* ended is 16, waiting is 11 */
+    memcpy(before, log, sizeof log);
+    t = ind_step(list, len, s.state, log, sizeof log, 0, 0);
+    CHECK(t.number == IND_ENDED && same_state(&t.state, &s.state));
+    t = ind_step(list, len, s.state, log, sizeof log, 1, 0);
+    CHECK(t.number == IND_NOT_READY && same_state(&t.state, &s.state));
+    CHECK(memcmp(before, log, sizeof log) == 0);
+
+    /* the lights' three masks are the three cases */
+    l = ind_lights(list, len, s.state);
+    CHECK(l.ready == 4 && l.waiting == 2 && l.ended == 1);
+
+    /* 16 and 11 after 7, 8, 9, 6 and 10, before 12 and 13 */
+    for (uint8_t i = 0; i <= 1; i++) {
+        uint8_t number = i == 0 ? IND_ENDED : IND_NOT_READY;
+
+        u = s.state;
+        u.b = 9;
+        u.pri[i] = 9;
+        CHECK(ind_step(list, len, u, log, 10, i, 10).number == number);
+        CHECK(ind_step(list, len, u, log, 9, i, 10).number == IND_ROOM);
+        CHECK(ind_step(list, len, u, log, 10, 3, 10).number == IND_COMPONENT);
+        u.m = 4096;
+        CHECK(ind_step(list, len, u, log, 10, i, 10).number == IND_FULL);
+        CHECK(ind_step(list, len, u, whole, sizeof whole, i, 10).number
+              == IND_FULL);
+        u.m = 4097;
+        CHECK(ind_step(list, len, u, log, 10, i, 10).number == IND_STATE);
+        CHECK(ind_step(list, len - 1, u, log, 10, i, 10).number == IND_LIST);
+    }
+    CHECK(memcmp(before, log, sizeof log) == 0);
+
+    /* run: refused at once, behind two steps, and not where the number of
+     * steps ends before it */
+    r = ind_run(list, len, s.state, log, sizeof log, end_0, 2, 1);
+    CHECK(r.number == IND_ENDED && r.steps == 0);
+    CHECK(same_state(&r.state, &s.state));
+    r = ind_run(list, len, first.state, log, sizeof log, end_0, 6, 9);
+    CHECK(r.number == IND_ENDED && r.steps == 2 && r.state.m == 2);
+    r = ind_run(list, len, first.state, log, sizeof log, end_0, 6, 2);
+    CHECK(r.number == IND_FINE && r.steps == 2);
+    r = ind_run(list, len, first.state, log, 10, end_0, 6, 9);
+    CHECK(r.number == IND_ROOM && r.steps == 2);
+    r = ind_run(list, len, first.state, log, sizeof log, wait_1, 2, 1);
+    CHECK(r.number == IND_FINE && r.steps == 1);
+    r = ind_run(list, len, first.state, log, sizeof log, wait_1, 6, 9);
+    CHECK(r.number == IND_NOT_READY && r.steps == 2 && r.state.m == 2);
+
+    /* undo: a pick of an ended station in the log is 15, and so is one of a
+     * waiting station; the record withdrawn is not judged */
+    r = ind_run(list, len, r.state, log, sizeof log, end_0 + 2, 2, 1);
+    CHECK(r.number == IND_FINE && r.state.m == 3);
+    s = ind_undo(list, len, r.state, log, sizeof log);
+    CHECK(s.number == IND_FINE && s.state.m == 2);
+    for (uint8_t i = 0; i <= 1; i++) {
+        memcpy(before, log, sizeof log);
+        before[8] = i;
+        t = ind_undo(list, len, r.state, before, sizeof before);
+        CHECK(t.number == IND_LOG && same_state(&t.state, &r.state));
+        memcpy(before, log, sizeof log);
+        before[10] = i;
+        t = ind_undo(list, len, r.state, before, sizeof before);
+        CHECK(t.number == IND_FINE && same_state(&t.state, &s.state));
+    }
+
+    /* the trace */
+    CHECK(traced(&p, start, 4, end_0, 6,
+                 "0 5 5 0 0 0\n1 4 4 0 0 -1\n2 4 4 0 0 0\nend 16\n"));
+    CHECK(traced(&p, start, 4, wait_1, 6,
+                 "0 5 5 0 0 0\n1 4 4 0 0 -1\n2 4 4 0 0 0\nend 11\n"));
+    CHECK(traced(&p, start, 4, wait_1 + 4, 2, "0 5 5 0 0 0\nend 11\n"));
+    CHECK(traced(&p, start, 4, withdrawn, 8,
+                 "0 5 5 0 0 0\n1 4 4 0 0 -1\n0 5 5 0 0 0\n1 4 4 0 0 -1\n"
+                 "end 16\n"));
+
+    /* 10 where every station has ended */
+    p.len = 0;
+    add_bare(&p, IND_STATION);
+    add_bare(&p, IND_SKIP);
+    CHECK(ind_build(p.bytes, p.len, list, len).count == 3);
+    s = ind_start(list, 48, 0, resets, 1, log, sizeof log);
+    s = ind_step(list, 48, s.state, log, sizeof log, 0, 0);
+    t = ind_step(list, 48, s.state, log, sizeof log, 0, 0);
+    CHECK(t.number == IND_ENDED);
+    t = ind_step(list, 48, s.state, log, sizeof log, 1, 0);
+    CHECK(t.number == IND_COMPONENT);
+    t = ind_step(list, 48, s.state, log, sizeof log, 255, 0);
+    CHECK(t.number == IND_COMPONENT);
+
+    /* "Dryer": station 1 waits, then is ready, then has ended */
+    dryer(&p);
+    CHECK(traced(&p, start, 3, wait_1 + 4, 2, "0 1 1 0 0\nend 11\n"));
+    CHECK(traced(&p, start, 3, withdrawn + 4, 4,
+                 "0 1 1 0 0\n1 2 2 0 0\nend 16\n"));
+}
+
+/* The call: each case, each refusal, their order. */
+static void test_readiness(void)
+{
+    static struct sequence p;
+    static uint8_t longest[IND_ITEM * IND_MAX_ITEMS];
+    uint8_t list[IND_ITEM * 32], log[32];
+    static const uint8_t resets[8] = { 0 };
+    struct ind_state_answer s;
+    struct ind_state u;
+    size_t len = IND_ITEM * 11;
+
+    purge(&p);
+    CHECK(ind_build(p.bytes, p.len, list, sizeof list).count == 11);
+    s = ind_start(list, len, 1, resets, 3, log, sizeof log);
+    CHECK(told(list, len, s.state, 0, IND_FINE, 0));
+    CHECK(told(list, len, s.state, 1, IND_NOT_READY, 5));
+    CHECK(told(list, len, s.state, 2, IND_FINE, 0));
+    s = ind_step(list, len, s.state, log, sizeof log, 0, 1);
+    CHECK(told(list, len, s.state, 0, IND_ENDED, 0));
+
+    /* ready at AWAIT; whose turn it is does not matter, nor do the steps
+     * that stand */
+    u = s.state;
+    u.var[0] = 1;
+    u.pri[1] = 1;
+    CHECK(told(list, len, u, 1, IND_FINE, 0));
+    CHECK(ind_step(list, len, u, log, sizeof log, 1, 0).number == IND_TURN);
+    u = s.state;
+    u.m = 4096;
+    CHECK(told(list, len, u, 0, IND_ENDED, 0));
+    CHECK(told(list, len, u, 1, IND_NOT_READY, 5));
+    CHECK(told(list, len, u, 2, IND_FINE, 0));
+
+    /* 10 by station n, by one above it and by the last */
+    CHECK(told(list, len, s.state, 3, IND_COMPONENT, 0));
+    CHECK(told(list, len, s.state, 4, IND_COMPONENT, 0));
+    CHECK(told(list, len, s.state, 8, IND_COMPONENT, 0));
+    CHECK(told(list, len, s.state, 255, IND_COMPONENT, 0));
+
+    /* 8, before 10, of a waiting station too */
+    u.m = 4097;
+    CHECK(told(list, len, u, 1, IND_STATE, 0));
+    CHECK(told(list, len, u, 3, IND_STATE, 0));
+    u = s.state;
+    u.n = 4;
+    CHECK(told(list, len, u, 1, IND_STATE, 0));
+    CHECK(told(list, len, u, 3, IND_STATE, 0));
+    u = s.state;
+    u.pos[0] = 6;                      /* another station's, inside */
+    CHECK(told(list, len, u, 1, IND_STATE, 0));
+
+    /* 7, before 8 and 10 */
+    CHECK(told(list, len - 16, s.state, 1, IND_LIST, 0));
+    CHECK(told(list, len - 16, u, 1, IND_LIST, 0));
+    CHECK(told(list, len - 16, u, 255, IND_LIST, 0));
+    CHECK(told(NULL, 0, s.state, 0, IND_LIST, 0));
+
+    /* an AWAIT of each op, against a constant and a variable; IF and WHILE
+     * with the same condition never wait */
+    for (uint8_t op = 0; op < 8; op++) {
+        static const uint8_t kind[3] = { IND_AWAIT, IND_IF, IND_WHILE };
+        static const uint32_t left[5] = { 4, 5, 6, 0, UINT32_MAX };
+        static const uint8_t holds[4][5] = {
+            { 0, 1, 0, 0, 0 },         /* "b equals," */
+            { 1, 0, 1, 1, 1 },         /* "differs from," */
+            { 1, 0, 0, 1, 0 },         /* "is below," */
+            { 0, 1, 1, 0, 1 }          /* "is at least k" */
+        };
+
+        for (int i = 0; i < 3; i++) {
+            p.len = 0;
+            add(&p, IND_SET, 7, 0, 0, 5);
+            add_bare(&p, IND_STATION);
+            add(&p, kind[i], 0, 2, op, op < 4 ? 5 : 7);
+            add_bare(&p, IND_SKIP);
+            if (i == 1) {
+                add_bare(&p, IND_ELSE);
+                add_bare(&p, IND_SKIP);
+            }
+            add_bare(&p, i == 0 ? IND_END : i == 1 ? IND_FI : IND_OD);
+            len = ind_build(p.bytes, p.len, list, sizeof list).count * 16u;
+            s = ind_start(list, len, 0, resets, 1, log, sizeof log);
+            CHECK(s.number == IND_FINE);
+            for (int j = 0; j < 5; j++) {
+                int waits = i == 0 && !holds[op % 4][j];
+
+                s.state.var[2] = left[j];
+                CHECK(told(list, len, s.state, 0,
+                           waits ? IND_NOT_READY : IND_FINE, waits ? 2 : 0));
+            }
+        }
+    }
+
+    /* eight stations: the even ones wait, each at a place of its own */
+    p.len = 0;
+    for (int i = 0; i < 8; i++) {
+        add_bare(&p, IND_STATION);
+        if (i % 2 == 0)
+            add(&p, IND_AWAIT, 0, 0, 1, 0);
+        add_bare(&p, IND_SKIP);
+        if (i % 2 == 0)
+            add_bare(&p, IND_END);
+    }
+    len = ind_build(p.bytes, p.len, list, sizeof list).count * 16u;
+    CHECK(len == 16 * 28);
+    s = ind_start(list, len, 0, resets, 8, log, sizeof log);
+    for (uint8_t i = 0; i < 8; i++)
+        CHECK(told(list, len, s.state, i,
+                   i % 2 == 0 ? IND_NOT_READY : IND_FINE,
+                   i % 2 == 0 ? (uint16_t)(8 + 5 * (i / 2)) : 0));
+    CHECK(told(list, len, s.state, 8, IND_COMPONENT, 0));
+    CHECK(told(list, len, s.state, 255, IND_COMPONENT, 0));
+
+    /* a place of two bytes */
+    p.len = 0;
+    add_bare(&p, IND_STATION);
+    while (p.len < 8 * 1021)
+        add_bare(&p, IND_SKIP);
+    add(&p, IND_AWAIT, 0, 0, 1, 0);
+    add_bare(&p, IND_SKIP);
+    add_bare(&p, IND_END);
+    len = ind_build(p.bytes, p.len, longest, sizeof longest).count * 16u;
+    s = ind_start(longest, len, 0, resets, 1, log, sizeof log);
+    CHECK(told(longest, len, s.state, 0, IND_FINE, 0));
+    s.state.pos[0] = 1021;
+    CHECK(told(longest, len, s.state, 0, IND_NOT_READY, 1021));
+    s.state.pos[0] = 1023;
+    CHECK(told(longest, len, s.state, 0, IND_ENDED, 0));
+}
+
+/* Lists that someone else wrote: several STOPs of a station, or none. */
+static void test_foreign_stops(void)
+{
+    /* station 0 has three STOPs, one that nobody reaches; station 1 has none
+     * and waits where its AWAIT leads back to itself */
+    static const uint8_t list[] = {
+        16, 0, 0, 0, 0, 0, 0, 0, 0, 0, 3, 0, 0, 0, 0, 0,
+        16, 1, 0, 0, 0, 0, 0, 0, 1, 0, 5, 0, 0, 0, 0, 0,
+        17, 0, 0, 0, 0, 0, 0, 0, 0, 0, 0, 0, 0, 0, 0, 0,
+        4, 0, 0, 0, 0, 0, 0, 0, 0, 0, 7, 0, 2, 0, 0, 0,
+        2, 0, 0, 0, 0, 0, 0, 0, 1, 0, 5, 0, 0, 0, 0, 0,
+        9, 0, 0, 1, 0, 0, 0, 0, 1, 0, 6, 0, 5, 0, 0, 0,
+        3, 0, 0, 3, 1, 0, 0, 0, 1, 1, 0, 0, 0, 0, 0, 0,
+        17, 0, 0, 0, 0, 0, 0, 0, 0, 0, 0, 0, 0, 0, 0, 0,
+        17, 0, 0, 0, 0, 0, 0, 0, 0, 0, 0, 0, 0, 0, 0, 0
+    };
+    static const uint8_t resets[2] = { 0, 0 };
+    static const uint16_t stop[3] = { 2, 7, 8 };
+    uint8_t log[32];
+    struct ind_state_answer s, t;
+
+    s = ind_start(list, sizeof list, 0, resets, 2, log, sizeof log);
+    CHECK(s.number == IND_FINE);
+    CHECK(told(list, sizeof list, s.state, 0, IND_FINE, 0));
+    CHECK(told(list, sizeof list, s.state, 1, IND_NOT_READY, 5));
+    t = ind_step(list, sizeof list, s.state, log, sizeof log, 0, 0);
+    CHECK(t.number == IND_FINE && t.state.pos[0] == 7);
+    for (int i = 0; i < 3; i++) {
+        struct ind_lights_answer l;
+
+        t.state.pos[0] = stop[i];
+        CHECK(told(list, sizeof list, t.state, 0, IND_ENDED, 0));
+        CHECK(ind_step(list, sizeof list, t.state, log, sizeof log, 0,
+                       0).number == IND_ENDED);
+        l = ind_lights(list, sizeof list, t.state);
+        CHECK(l.number == IND_FINE && l.ended == 1 && l.waiting == 2);
+    }
+
+    /* without a STOP a station waits and is ready by turns, and never ends */
+    s.state.var[0] = 2;
+    for (int i = 0; i < 2; i++) {
+        CHECK(told(list, sizeof list, s.state, 1, IND_FINE, 0));
+        s.state.pri[0] = 0;            /* so that station 1 is in turn */
+        s = ind_step(list, sizeof list, s.state, log, sizeof log, 1, 0);
+        CHECK(s.number == IND_FINE && s.state.pos[1] == 5);
+    }
+    CHECK(told(list, sizeof list, s.state, 1, IND_NOT_READY, 5));
+    s.state.pos[1] = 4;                /* the SKIP that nobody reaches */
+    CHECK(told(list, sizeof list, s.state, 1, IND_FINE, 0));
+}
+
 /* The step limit: 4,096 steps stand, one more is FULL, and each can be
  * withdrawn. */
 static void test_full(void)
@@ -642,6 +984,40 @@ static void make_list(struct maker *k, const uint8_t *file, size_t count)
     }
 }
 
+/* Readiness of a station against its record in the list, against its lights
+ * and against a step that picks it. */
+static void check_station(const uint8_t *list, size_t len,
+                          const struct ind_state *state,
+                          const struct ind_lights_answer *l, size_t j)
+{
+    const uint8_t *r = list + 16 * (size_t)state->pos[j];
+    uint32_t left = state->var[r[2] % 32], k = 0;
+    uint8_t number = IND_FINE, log[200];
+    struct ind_state_answer s;
+
+    for (int i = 3; i >= 0; i--)
+        k = k << 8 | r[4 + i];
+    if (r[3] > 3)
+        k = state->var[k % 32];
+    if (r[0] == IND_STOP)
+        number = IND_ENDED;
+    if (r[0] == IND_AWAIT
+        && ((r[3] % 4 == 0 && left != k) || (r[3] % 4 == 1 && left == k)
+            || (r[3] % 4 == 2 && left >= k) || (r[3] % 4 == 3 && left < k)))
+        number = IND_NOT_READY;
+
+    CHECK(told(list, len, *state, (uint8_t)j, number,
+               number == IND_NOT_READY ? state->pos[j] : 0));
+    CHECK((l->ready >> j & 1) == (number == IND_FINE));
+    CHECK((l->ended >> j & 1) == (number == IND_ENDED));
+    CHECK((l->waiting >> j & 1) == (number == IND_NOT_READY));
+    s = ind_step(list, len, *state, log, sizeof log, (uint8_t)j, 255);
+    if (number != IND_FINE)
+        CHECK(s.number == number);
+    else
+        CHECK(s.number != IND_ENDED && s.number != IND_NOT_READY);
+}
+
 /* Random sequences: built twice, run, withdrawn. */
 static void test_random(struct rng *g, int rounds)
 {
@@ -685,6 +1061,8 @@ static void test_random(struct rng *g, int rounds)
             CHECK((l.ready | l.waiting | l.ended) == (1 << n) - 1);
             CHECK((l.in_turn & ~l.ready) == 0);
             CHECK((l.ready == 0) == (l.in_turn == 0));
+            for (size_t j = 0; j < n; j++)
+                check_station(list, len, &s.state, &l, j);
             if (l.in_turn == 0)
                 break;
             while ((l.in_turn >> i & 1) == 0)
@@ -788,6 +1166,9 @@ int main(void)
     test_check_cases();
     test_p9_p10();
     test_dryer();
+    test_ended();
+    test_readiness();
+    test_foreign_stops();
     test_full();
     test_loop_ends_branch();
     test_shape(6);

@@ -3,7 +3,8 @@
  * until it ends: two bytes each, a station and its reset to pick it, or 255 and 0 to take the last step back. It prints
  * a line for the start and for each key: 0 or the number of the refusal, the standing steps, variable 0, the
  * priorities, and the lights of the state that is there: which stations are ready, in turn, waiting and ended, and
- * which read and write variable 0 next.
+ * which read and write variable 0 next. Then, station by station and in words, whether it is ready, has ended, or waits
+ * and at which record.
  */
 #include "press.h"
 #include <stdio.h>
@@ -19,6 +20,18 @@ static uint8_t list[PRESS_LIST_BYTES];
 static size_t list_len;
 static uint8_t steps_log[PRESS_LOG_BYTES];
 
+static void say(press_told told)
+{
+    if (told.number == 0)
+        printf(" ready");
+    else if (told.number == PRESS_ENDED)
+        printf(" ended");
+    else if (told.number == PRESS_NOT_READY)
+        printf(" waits@%u", (unsigned)told.place);
+    else
+        printf(" refused:%u", (unsigned)told.number);
+}
+
 static void show(unsigned number, const press_state *state)
 {
     printf("%u %u %lu", number, (unsigned)state->m, (unsigned long)state->vars[0]);
@@ -26,7 +39,10 @@ static void show(unsigned number, const press_state *state)
         printf(" %d", (int)state->priorities[j]);
     const press_lit lit = press_lights(*state, list, list_len);
     printf(" | %u %u %u %u", (unsigned)lit.ready, (unsigned)lit.in_turn, (unsigned)lit.waiting, (unsigned)lit.ended);
-    printf(" | %u %u\n", (unsigned)lit.rows[0][0], (unsigned)lit.rows[1][0]);
+    printf(" | %u %u |", (unsigned)lit.rows[0][0], (unsigned)lit.rows[1][0]);
+    for (uint8_t j = 0; j < state->n; j++)
+        say(press_readiness(*state, list, list_len, j));
+    putchar('\n');
 }
 
 int main(void)

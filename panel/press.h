@@ -1,16 +1,17 @@
 /*
  * The press calls for C and C++: check and build a written sequence, start a run of its list, step it, run it, take
- * steps back and light its stations. Link libpanel.a. Each call answers by the rules of document 01 whatever it is
- * given; none prints, allocates or keeps a pointer.
+ * steps back, ask of a station whether it is ready, and light all of them. Link libpanel.a. Each call answers by the
+ * rules of document 01, as docs/AMENDMENTS.md amends them, whatever it is given; none prints, allocates or keeps a
+ * pointer.
  *
  * Lending. Bytes are lent as a pointer and their number. No pointer is null, also where the number is 0. What a call
  * writes to (list in press_build; log in press_start, press_step, press_advance and press_run; state in press_advance)
  * overlaps nothing else that is lent to the same call. The bytes and the fields may hold any values: a list or a state
  * that is not sound is refused.
  *
- * Refusals. Each answer has a number: 0, or that of the refusal, named below. A refused call leaves all that it was
- * lent as it was; where it answers a state, it is the state given, or zeros from press_start. Only press_run may have
- * taken steps before the refusal, and those stand.
+ * Refusals. Each answer has a number: 0, or that of the refusal, named below; press_readiness gives 16 and 11 as its
+ * answer too. A refused call leaves all that it was lent as it was; where it answers a state, it is the state given, or
+ * zeros from press_start. Only press_run may have taken steps before the refusal, and those stand.
  */
 #ifndef PRESS_H
 #define PRESS_H
@@ -30,15 +31,16 @@ enum {
     PRESS_SHAPE = 4,      /* check, build: a record after which no continuation is well shaped, or an unfinished file */
     PRESS_DEPTH = 5,      /* check, build: a record that is the seventeenth open */
     PRESS_ROOM = 6,       /* build: the list buffer is short; start, step, advance, run: the log is */
-    PRESS_LIST = 7,       /* start, step, advance, run, undo, lights: the list is not sound */
-    PRESS_STATE = 8,      /* step, advance, run, undo, lights: the state is not sound against the list */
+    PRESS_LIST = 7,       /* start, step, advance, run, undo, readiness, lights: the list is not sound */
+    PRESS_STATE = 8,      /* step, advance, run, undo, readiness, lights: the state is not sound against the list */
     PRESS_FULL = 9,       /* step, advance, run: 4,096 steps stand */
-    PRESS_COMPONENT = 10, /* step, advance, run: no such station */
-    PRESS_NOT_READY = 11, /* step, advance, run: the station has ended or is waiting */
+    PRESS_COMPONENT = 10, /* step, advance, run, readiness: no such station */
+    PRESS_NOT_READY = 11, /* step, advance, run, readiness: the station is waiting */
     PRESS_TURN = 12,      /* step, advance, run: the station is ready, and a ready one has a lower priority number */
     PRESS_RESET = 13,     /* start: resets not one a station, or one above b; step, advance, run: a reset above b */
     PRESS_EMPTY = 14,     /* undo: no step stands */
-    PRESS_LOG = 15        /* undo: the log is short, has wrong start records, or has a step that is refused */
+    PRESS_LOG = 15,       /* undo: the log is short, has wrong start records, or has a step that is refused */
+    PRESS_ENDED = 16      /* step, advance, run, readiness: the station has ended */
 };
 
 /* Bytes that are always enough. */
@@ -121,8 +123,8 @@ press_outcome press_start(const uint8_t *list, size_t list_len, uint8_t b, const
 
 /*
  * One step, by the pick of a station and its reset. It answers the state after the step and writes the pick, its two
- * bytes, to the log at byte 2 * (n + m) of the state given; the other bytes stay. Refused (7, 8, 9, 6, 10, 11, 12, 13,
- * in this order), it answers the state given and leaves the log as it was.
+ * bytes, to the log at byte 2 * (n + m) of the state given; the other bytes stay. Refused (7, 8, 9, 6, 10, 16, 11, 12,
+ * 13, in this order), it answers the state given and leaves the log as it was.
  */
 press_outcome press_step(press_state state, const uint8_t *list, size_t list_len, uint8_t *log, size_t log_len,
                          uint8_t station, uint8_t reset);
@@ -150,6 +152,25 @@ press_ran press_run(press_state state, const uint8_t *list, size_t list_len, uin
  * answers the state given.
  */
 press_outcome press_undo(press_state state, const uint8_t *list, size_t list_len, const uint8_t *log, size_t log_len);
+
+/* ---- the stations */
+
+/*
+ * What a station's readiness tells. 0 and place 0: it is ready. PRESS_ENDED and place 0: it is at a STOP, and takes no
+ * step unless an undo takes it back. PRESS_NOT_READY: it is at an AWAIT whose condition fails, and place is that record's number in the list.
+ * Or a refusal and place 0. So it is ready exactly where the number is 0.
+ */
+typedef struct press_told {
+    uint8_t number;
+    uint16_t place;
+} press_told;
+
+/*
+ * Whether a station is ready, has ended, or is waiting, and where. It keeps nothing from call to call and writes
+ * nothing. PRESS_LIST, PRESS_STATE and PRESS_COMPONENT, in this order, are tested before. Where it answers 10, 16 or 11,
+ * a step that picks this station is refused with the same number, given room in the log and fewer than 4,096 steps.
+ */
+press_told press_readiness(press_state state, const uint8_t *list, size_t list_len, uint8_t station);
 
 /* ---- the lights */
 

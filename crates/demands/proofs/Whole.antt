@@ -1,7 +1,10 @@
 -- The three demands hold of the rules' calls, and of any that equal them. Assumes nothing.
 use mathlib.Core.Path.{_≡_, sym, subst, fun-ext}
 use Rattle.rules.specs.Calls.{Seven, ruled}
+use Rattle.laws.proofs.Ready.{readiness-tells}
+use Rattle.laws.proofs.Told.{step-tells}
 use Rattle.lit.proofs.Shown.{lights-show}
+use Rattle.lit.proofs.Split.{masks-split}
 use Rattle.fair.proofs.Taken.{step-taken}
 use Rattle.fair.proofs.Deadlock.{no-deadlock, step-there}
 use Rattle.language.proofs.Meant.{transitions-determined}
@@ -37,6 +40,8 @@ pub demand-2 : Demand2 ruled
 demand-2 =
     record {
       taken-when = step-taken;
+      readiness = readiness-tells;
+      step-tells = step-tells;
       step-does = step-does;
       start-when = start-when;
       start-begins = start-begins;
@@ -50,6 +55,7 @@ demand-2 =
       undo-below = undo-below;
       log-written = log-written;
       lights-show = lights-show;
+      masks-split = masks-split;
       in-turn = in-turn;
       lights-fresh = lights-fresh;
     }

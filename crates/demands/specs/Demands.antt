@@ -6,9 +6,12 @@
 use mathlib.Core.List.{List}
 use Prim.Native.Nat.{ℕ, _<_}
 use lib.ListN.{getD}
+use Rattle.rules.specs.Records.{Pick}
+use Rattle.rules.specs.State.{State}
 use Rattle.rules.specs.Calls.{Seven}
+use Rattle.laws.specs.Tells.{ReadinessTells, StepTells}
 use Rattle.reading.specs.Accepted.{Accepted}
-use Rattle.lit.specs.Lit.{LightsShow}
+use Rattle.lit.specs.Lit.{LightsShow, MasksSplit}
 use Rattle.fair.specs.Taken.{StepTaken, NoDeadlock, StepThere}
 use Rattle.language.specs.Claims.{Determined}
 use Rattle.history.specs.Back.{UndoBelow}
@@ -46,6 +49,10 @@ pub record Demand2 (bench : Seven) : Type 0 where
   -- "On a sound list and state, with log room and step room left, a built-in step is taken exactly when its station is ready, no ready
   -- station has a lower priority number and the reset is allowed"
   pub taken-when : StepTaken bench
+  -- where "a station is ready when not at STOP and, if at AWAIT, its condition holds", and is else ended or waiting, at the record told; and a
+  -- step refused for that says which
+  pub readiness : (list : List ℕ) (s : State) → ReadinessTells list s
+  pub step-tells : (list : List ℕ) (s : State) (log : List ℕ) (p : Pick) → StepTells bench list s log p
   pub step-does : StepDoes bench
   pub start-when : StartTaken bench
   pub start-begins : StartBegins bench
@@ -62,6 +69,7 @@ pub record Demand2 (bench : Seven) : Type 0 where
   pub undo-below : UndoBelow bench
   pub log-written : LogWritten bench
   pub lights-show : LightsShow bench
+  pub masks-split : MasksSplit bench
   pub in-turn : InTurn bench
   pub lights-fresh : LightsFresh bench
 

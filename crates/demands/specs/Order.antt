@@ -7,7 +7,7 @@ use mathlib.Core.List.{List, [], _∷_}
 use Prim.Native.Nat.{ℕ, _+_, _*_, _%_, _<_}
 use lib.Dec.{eqb, leb, ltb}
 use lib.ListN.{length}
-use Rattle.rules.specs.Words.{if_then_else_, first, Answer}
+use Rattle.rules.specs.Words.{if_then_else_, first, answer}
 use Rattle.rules.specs.Names.{SHAPE, DEPTH}
 use Rattle.rules.specs.Records.{record-count, Pick}
 use Rattle.rules.specs.Shape.{well-shaped, shape-place}
@@ -16,15 +16,12 @@ use Rattle.rules.specs.Build.{list-records}
 use Rattle.rules.specs.List.{stations, sound-list}
 use Rattle.rules.specs.State.{State, zeros, sound-state}
 use Rattle.rules.specs.Start.{wrong-resets}
-use Rattle.rules.specs.Ready.{ready, lowest}
+use Rattle.rules.specs.Ready.{ended, waiting, lowest}
 use Rattle.rules.specs.Undo.{starts-right, replayed}
 use Rattle.rules.specs.Lights.{dark}
 use Rattle.rules.specs.Calls.{Seven}
 use Rattle.grammar.specs.Grammar.{Sequence}
 use Rattle.grammar.specs.Meaning.{Fault, Passes-three, seventeenth}
-
-abbrev pub answer : ℕ → ℕ → Answer
-answer number place = record { number = number; place = place }
 
 -- check: 1, 2, 3, 4, 5, each with its place
 abbrev pub CheckOrder : Seven → Type 0
@@ -69,7 +66,7 @@ StartOrder bench =
     else if ltb (length log) (2 * stations list) then 6
     else 0)
 
--- step: 7, 8, 9, 6, 10, 11, 12, 13
+-- step: 7, 8, 9, 6, 10, 16, 11, 12, 13
 abbrev pub StepOrder : Seven → Type 0
 StepOrder bench =
     (list : List ℕ) (s : State) (log : List ℕ) (p : Pick)
@@ -79,7 +76,8 @@ StepOrder bench =
     else if eqb (s .m) 4096 then 9
     else if ltb (length log) (2 * (s .n + s .m + 1)) then 6
     else if leb (s .n) (p .station) then 10
-    else if not (ready list s (p .station)) then 11
+    else if ended list s (p .station) then 16
+    else if waiting list s (p .station) then 11
     else if not (lowest list s (p .station)) then 12
     else if ltb (s .b) (p .reset) then 13
     else 0)

@@ -4,7 +4,7 @@ use mathlib.Core.Bool.{true, false}
 use mathlib.Core.List.{List, [], _∷_}
 use Prim.Native.Nat.{ℕ, zero, suc, _≤_, _<_}
 use native.Mathlib.Omega.{arith}
-use borrow.Author.Tests.{eqb-true, not-true}
+use borrow.Author.Tests.{eqb-true, ne-eqb}
 use lib.Dec.{eqb}
 use lib.ListN.{getD, set}
 use lib.Seq.{getD-set-other}
@@ -12,10 +12,11 @@ use Rattle.rules.specs.Names.{STOP, max-stations, max-steps}
 use Rattle.rules.specs.Records.{Pick}
 use Rattle.rules.specs.List.{sound-list, outside}
 use Rattle.rules.specs.State.{State, position, empty-at, sound-state}
-use Rattle.rules.specs.Ready.{next-step, ended, ready}
+use Rattle.rules.specs.Ready.{next-step, ready}
 use Rattle.rules.specs.Step.{stepped, picked, step}
 use Rattle.laws.specs.Passed.{Known}
-use Rattle.laws.proofs.Choice.{by-test, both-left}
+use Rattle.laws.proofs.Choice.{by-test}
+use Rattle.laws.proofs.Ready.{readiness-tells}
 use Rattle.fair.specs.Charged.{Chosen}
 use Rattle.fair.specs.Sound.{StepSound}
 use Rattle.fair.proofs.Charge.{few-low-kept, bound-kept, rest-kept}
@@ -33,10 +34,9 @@ set-has P (y ∷ xs) zero x (suc j) d new old = old
 set-has P (y ∷ xs) (suc i) x zero d new old = old
 set-has P (y ∷ xs) (suc i) x (suc j) d new old = set-has P xs i x j d (λ e. new (rw e)) old
 
--- a ready station has not ended
-going : (list : List ℕ) (s : State) (j : ℕ) → ready list s j ≡ true → eqb (next-step list s j .own .kind) STOP ≡ false
-unfolding ready ended
-going list s j r = not-true _ (both-left _ _ r)
+-- a ready station is not at a STOP
+going : (list : List ℕ) (s : State) (j : ℕ) → j < s .n → ready list s j ≡ true → eqb (next-step list s j .own .kind) STOP ≡ false
+going list s j l r = ne-eqb _ STOP (readiness-tells list s .of-station j l .ready-when .0 r .0)
 
 module _ (list : List ℕ) (s : State) (p : Pick) (h : sound-list list ≡ true) (v : Clauses list s) (c : Chosen list s (p .station)) where
   placed : (j : ℕ) → j < s .n → outside list j (position (stepped list s p) j) ≡ true
@@ -44,7 +44,7 @@ module _ (list : List ℕ) (s : State) (p : Pick) (h : sound-list list ≡ true)
   placed j l =
       set-has (λ q. outside list j q ≡ true) (s .positions) (p .station) _ j 0
       (λ e. rw e (position-outside list (p .station) (position s (p .station)) (s .vars) h (v .placed (p .station) (c .station))
-      (going list s (p .station) (c .enabled))))
+      (going list s (p .station) (c .station) (c .enabled))))
       (v .placed j l)
 
   position-kept : (j : ℕ) → s .n ≤ j → position (stepped list s p) j ≡ position s j

@@ -1,4 +1,4 @@
--- Which steps are taken: tests 10 to 13 leave the picks that FAIR allows. Assumes nothing.
+-- Which steps are taken: the pick's own tests leave the picks that FAIR allows. Assumes nothing.
 use mathlib.Core.Path.{_∙_}
 use mathlib.Core.Logic.{_↔_}
 use mathlib.Core.List.{List}

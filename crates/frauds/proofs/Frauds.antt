@@ -1,7 +1,7 @@
 -- The frauds, each against what calls that meet the demands answer on "Dryer", or on a file of one or two SKIPs. Assumes nothing.
 use mathlib.Core.Path.{_≡_, refl, sym, ap, _∙_}
 use mathlib.Core.Logic.{_≢_}
-use mathlib.Core.Bool.{true, false, false≢true, and-false}
+use mathlib.Core.Bool.{true, false, false≢true}
 use mathlib.Core.List.{List, [], _∷_, _++_}
 use mathlib.Core.Option.{none, some}
 use Prim.Native.Nat.{ℕ, _+_, _<_}
@@ -11,7 +11,7 @@ use lib.Dec.{eqb}
 use lib.ListN.{getD, replicate}
 use lib.IntN.{ℤ, pos}
 use Rattle.rules.specs.Words.{each, first, tally, mask, values, changed, written, Answer, judge}
-use Rattle.rules.specs.Names.{STATION, SKIP}
+use Rattle.rules.specs.Names.{STATION, SKIP, NOT-READY, ENDED}
 use Rattle.rules.specs.Records.{Pick, pick-at, record-from, list-record-at}
 use Rattle.rules.specs.Fields.{rules-of, fields-right}
 use Rattle.rules.specs.Shape.{stride, wrong-at, walked, well-shaped, too-deep-at}
@@ -22,7 +22,7 @@ use Rattle.rules.specs.List.{stations, initials-after, is-at, init-right, initi
 use Rattle.rules.specs.State.{State, zeros, priority, few-low, empty-at, sound-state}
 use Rattle.rules.specs.Values.{set-value, holds}
 use Rattle.rules.specs.Start.{initial-run, started, start-records, Started, start}
-use Rattle.rules.specs.Ready.{ended, waiting, ready, lowest}
+use Rattle.rules.specs.Ready.{readiness-at, readiness, ended, waiting, ready, lowest}
 use Rattle.rules.specs.Move.{body-run, step-vars, step-position}
 use Rattle.rules.specs.Step.{charge, stepped, picked, Stepped, step}
 use Rattle.rules.specs.Run.{Ran, steps-from, run}
@@ -31,6 +31,8 @@ use Rattle.rules.specs.Lights.{reads, writes, led-to, body, some-of, touches, L
 use Rattle.rules.specs.Calls.{Seven}
 use Rattle.rules.specs.History.{Call, START, STEP, UNDO, Steps, begun, taken, Now, stepped-on, called, calls-from, history}
 use Rattle.laws.proofs.Choice.{by-test}
+use Rattle.laws.proofs.Ready.{ready-alone}
+use Rattle.laws.proofs.Told.{step-tells}
 use Rattle.lit.proofs.Shown.{lights-show}
 use Rattle.lit.proofs.Only.{shows-only}
 use Rattle.fair.specs.Sound.{Held}
@@ -150,6 +152,7 @@ record Computed : Type 0 where
   ready-1 : lights list s₁ .ready ≡ 2
   waits : ready list s₀ 1 ≡ false
   released : ready list s₁ 1 ≡ true
+  ended-step : step list s₁ l₁ (pick 0 0) .number ≡ 16
   empty : check [] ≡ record { number = 1; place = 0 }
   accepted : check one-skip ≡ record { number = 0; place = 0 }
   unfinished : check (plain (STATION ∷ [])) ≡ record { number = 4; place = 1 }
@@ -160,7 +163,7 @@ record Computed : Type 0 where
   two-count : build two-skips (replicate 64 9) .count ≡ 4
 
 computed : Computed
-unfolding each first tally mask values changed written judge record-from list-record-at rules-of fields-right stride wrong-at walked well-shaped too-deep-at check wrong-length field-place station-count depth-place parts-of stations-of leading-sets initial-part size laid inits bodies list-of bytes-of build stations initials-after is-at init-right initial-right outside-targets inside-target inside-targets later-right sound-list few-low empty-at sound-state set-value holds initial-run started start-records start ended waiting ready lowest body-run step-vars step-position charge stepped picked step steps-from run reads writes led-to body some-of touches lights
+unfolding each first tally mask values changed written judge record-from list-record-at rules-of fields-right stride wrong-at walked well-shaped too-deep-at check wrong-length field-place station-count depth-place parts-of stations-of leading-sets initial-part size laid inits bodies list-of bytes-of build stations initials-after is-at init-right initial-right outside-targets inside-target inside-targets later-right sound-list few-low empty-at sound-state set-value holds initial-run started start-records start readiness-at readiness ended waiting ready lowest body-run step-vars step-position charge stepped picked step steps-from run reads writes led-to body some-of touches lights
 computed =
     record {
       begins = refl;
@@ -176,6 +179,7 @@ computed =
       ready-1 = refl;
       waits = refl;
       released = refl;
+      ended-step = refl;
       empty = refl;
       accepted = refl;
       unfinished = refl;
@@ -317,9 +321,8 @@ module _ (bench : Seven) (two : Demand2 bench) where
       let d = two .step-does list s log p h e .0 in
       d .priorities .stays j l (λ same. false≢true (sym r ∙ rw same (d .chosen .enabled))) r
 
-not-ready : (list : List ℕ) (s : State) (j : ℕ) → waiting list s j ≡ true → ready list s j ≡ false
-unfolding ready waiting
-not-ready list s j w = rw (w, and-false)
+not-ready : (list : List ℕ) (s : State) (j : ℕ) → j < s .n → waiting list s j ≡ true → ready list s j ≡ false
+not-ready list s j l w = by-test (ready list s j) (λ r. absurd (false≢true (sym (ready-alone list s j l r .1) ∙ w))) (λ r. r)
 
 pub by-demand-2 : ByDemand2
 by-demand-2 bench two =
@@ -389,8 +392,13 @@ by-demand-2 bench two =
       lights-kept = kept bench two;
       undo-priorities = λ list s log calls steps stands other.
           other (ap (λ (a : Undone). a .state .priorities) (two .undo-below list s log calls steps stands .undone));
-      waiting-charged = λ list s log p h e j l w other. other (stays bench two list s log p h e j l (not-ready list s j w));
+      waiting-charged = λ list s log p h e j l w other. other (stays bench two list s log p h e j l (not-ready list s j l w));
       judged-late = λ list s log p h e j l r after other. other (stays bench two list s log p h e j l r);
+      ended-untold = λ h. h list s₁ l₁ (pick 0 0) (two .step-tells list s₁ l₁ (pick 0 0) .ended-when .1 (step-tells list s₁ l₁ (pick 0 0) .ended-when .0 (computed .ended-step)));
+      waiting-ended = λ list s log p w h.
+          let t = two .step-tells list s log p in
+          let e : NOT-READY ≡ ENDED = sym (t .waiting-when .1 (t .ended-when .0 h .0, w)) ∙ h in
+          omega (arith, e);
       another-b = λ list b resets log e other. other (two .start-begins list b resets log e .0 .b-is);
     }
 

@@ -16,7 +16,7 @@ use Rattle.rules.specs.List.{stations, initials-after, is-at, init-right, initi
 use Rattle.rules.specs.State.{few-low, empty-at, sound-state}
 use Rattle.rules.specs.Values.{set-value, holds}
 use Rattle.rules.specs.Start.{initial-run, started, start-records, start}
-use Rattle.rules.specs.Ready.{ended, waiting, ready, lowest}
+use Rattle.rules.specs.Ready.{readiness-at, readiness, ended, waiting, ready, lowest}
 use Rattle.rules.specs.Move.{body-run, step-vars, step-position}
 use Rattle.rules.specs.Step.{charge, stepped, picked, step}
 use Rattle.rules.specs.Run.{steps-from, run}
@@ -39,7 +39,7 @@ pair-bytes i =
     (λ y. let e : getD pair i 0 ≡ 0 = List·getD-eq-default pair 0 {n = i} (ltb-false i 64 y) in omega (arith, e))
 
 pub met : Met
-unfolding each first tally mask values changed written judge record-from list-record-at rules-of fields-right stride wrong-at walked well-shaped too-deep-at check wrong-length field-place station-count depth-place parts-of stations-of leading-sets initial-part size laid inits bodies list-of bytes-of stations initials-after is-at init-right initial-right outside-targets inside-target inside-targets later-right sound-list few-low empty-at sound-state set-value holds initial-run started start-records start ended waiting ready lowest body-run step-vars step-position charge stepped picked step steps-from run replay starts-right replayed undo stepped-on single-steps called calls-from passed-over
+unfolding each first tally mask values changed written judge record-from list-record-at rules-of fields-right stride wrong-at walked well-shaped too-deep-at check wrong-length field-place station-count depth-place parts-of stations-of leading-sets initial-part size laid inits bodies list-of bytes-of stations initials-after is-at init-right initial-right outside-targets inside-target inside-targets later-right sound-list few-low empty-at sound-state set-value holds initial-run started start-records start readiness-at readiness ended waiting ready lowest body-run step-vars step-position charge stepped picked step steps-from run replay starts-right replayed undo stepped-on single-steps called calls-from passed-over
 met =
     record {
       bytes = pair-bytes;

@@ -11,7 +11,7 @@ use lib.Dec.{eqb}
 use lib.ListN.{length, take}
 use lib.IntN.{ℤ}
 use Rattle.rules.specs.Words.{if_then_else_, changed, Answer}
-use Rattle.rules.specs.Names.{LENGTH, LIST}
+use Rattle.rules.specs.Names.{LENGTH, LIST, ENDED}
 use Rattle.rules.specs.Records.{Pick, pick-at}
 use Rattle.rules.specs.State.{State, zeros, priority}
 use Rattle.rules.specs.Ready.{ended, waiting, ready}
@@ -99,6 +99,10 @@ pub record ShutOut (bench : Seven) : Type 0 where
   pub judged-late : (list : List ℕ) (s : State) (log : List ℕ) (p : Pick) → Held s → bench .step list s log p .number ≡ 0
       → (j : ℕ) → j < s .n → ready list s j ≡ false → ready list (bench .step list s log p .state) j ≡ true
       → priority (bench .step list s log p .state) j ≢ priority s j → ⊥
+  -- a STEP that says of a station that has ended only that it is not ready, and one that says of a waiting station that it has ended
+  pub ended-untold : ((list : List ℕ) (s : State) (log : List ℕ) (p : Pick) → bench .step list s log p .number ≢ ENDED) → ⊥
+  pub waiting-ended : (list : List ℕ) (s : State) (log : List ℕ) (p : Pick) → waiting list s (p .station) ≡ true
+      → bench .step list s log p .number ≡ ENDED → ⊥
   -- a START that stores another B than it was given
   pub another-b : (list : List ℕ) (b : ℕ) (resets log : List ℕ) → bench .start list b resets log .number ≡ 0
       → bench .start list b resets log .state .b ≢ b → ⊥

@@ -13,7 +13,7 @@ use Rattle.rules.specs.Words.{values}
 use Rattle.rules.specs.Names.{AWAIT, STOP}
 use Rattle.rules.specs.Records.{ListRecord, list-count, Pick}
 use Rattle.rules.specs.State.{State, position}
-use Rattle.rules.specs.Ready.{next-step, ended, waiting, ready}
+use Rattle.rules.specs.Ready.{next-step, says-ready, ready}
 use Rattle.rules.specs.Move.{body-run, step-vars, step-position}
 use Rattle.rules.specs.Step.{stepped}
 use Rattle.laws.proofs.Choice.{by-test}
@@ -22,6 +22,7 @@ use Rattle.reading.specs.Accepted.{Accepted}
 use Rattle.reading.proofs.One.{reading-is}
 use Rattle.built.specs.Built.{built}
 use Rattle.laws.proofs.Sound.{sound-means}
+use Rattle.laws.proofs.Ready.{readiness-here}
 use Rattle.laws.proofs.Answers.{step-state}
 use Rattle.fair.proofs.Taken.{step-taken}
 use Rattle.language.specs.Language.{await-end, Program, E, _before_, ⟨_∣_⟩⟶⟨_∣_⟩, ⟨_∣_⟩⟶*⟨_∣_⟩, component, Moves, parallel-rule, Enabled}
@@ -93,9 +94,9 @@ module _ (file : List ℕ) (bytes : (i : ℕ) → getD file i 0 < 256) (accepted
     matches : Matches (built file) (stands-for file i) e (stands-for file i (position s i))
     matches = outside-match file bytes accepted i (position s i) (standing i l)
 
-    ready-goes : ready (built file) s i ≡ goes (s .vars) e
-    unfolding ready ended waiting
-    ready-goes = refl
+    ready-goes : ready (built file) s i ≡ goes (s .vars) e (position s i)
+    unfolding ready
+    ready-goes = ap says-ready (readiness-here (built file) s i l)
 
     component-is : component (programs file s) i ≡ stands-for file i (position s i)
     component-is = getD-values (λ j. stands-for file j (position s j)) (s .n) i E l
@@ -103,13 +104,13 @@ module _ (file : List ℕ) (bytes : (i : ℕ) → getD file i 0 < 256) (accepted
     -- a ready station moves
     move : ready (built file) s i ≡ true
         → ⟨ stands-for file i (position s i) ∣ s .vars ⟩⟶⟨ stands-for file i (step-position (s .vars) e) ∣ step-vars (built file) (s .vars) e ⟩
-    move r = moves (built file) (stands-for file i) (s .vars) matches (sym ready-goes ∙ r)
+    move r = moves (built file) (stands-for file i) (s .vars) (position s i) matches (sym ready-goes ∙ r)
 
     ready-is : (ready (built file) s i ≡ true) ↔ Enabled (component (programs file s) i) (s .vars)
     ready-is = (
       λ r. rw component-is (moving-enabled (move r)),
       λ h. by-test (ready (built file) s i) (λ r. r)
-          (λ r. absurd (h (rw component-is (halts (built file) (stands-for file i) (s .vars) matches (sym ready-goes ∙ r))))),
+          (λ r. absurd (h (rw component-is (halts (built file) (stands-for file i) (s .vars) (position s i) matches (sym ready-goes ∙ r))))),
     )
 
     station-is : (T : Program) (τ : List ℕ) → ⟨ component (programs file s) i ∣ s .vars ⟩⟶⟨ T ∣ τ ⟩

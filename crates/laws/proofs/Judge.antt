@@ -1,12 +1,12 @@
 -- Tests made in order: the first that holds gives the answer. Assumes nothing.
 use mathlib.Core.Path.{_≡_, refl, sym, _∙_}
 use mathlib.Core.Logic.{_↔_}
-use mathlib.Core.Bool.{Bool, true, false, _&&_, not, true≢false}
+use mathlib.Core.Bool.{Bool, true, false, _&&_, not, true≢false, or-true}
 use mathlib.Core.List.{List, [], _∷_, _++_}
 use Prim.Native.Nat.{ℕ}
-use borrow.Author.Tests.{eqb-true, eqb-false, not-true}
+use borrow.Author.Tests.{eqb-true, eqb-false, eq-eqb, not-true}
 use lib.Dec.{eqb}
-use Rattle.rules.specs.Words.{if_then_else_, Test, _refuses_at_, judge, refusal}
+use Rattle.rules.specs.Words.{if_then_else_, among, Test, _refuses_at_, judge, refusal}
 use Rattle.laws.proofs.Choice.{by-test, both-left, both-right}
 
 pub judge-yes : (b : Bool) (n p : ℕ) (ts : List Test) → b ≡ true → judge ((b refuses n at p) ∷ ts) ≡ record { number = n; place = p }
@@ -54,6 +54,17 @@ unrefused ((true refuses number at place) ∷ tests) z =
 unrefused ((false refuses number at place) ∷ tests) z =
     let rest = unrefused tests (both-right (not (eqb number 0)) _ z) in
     (λ h. (refl, rest .0 h), λ h. rest .1 (h .1))
+
+-- a refusal's number is one of the tests'
+abbrev numbers : List Test → List ℕ
+numbers [] = []
+numbers ((holds refuses number at place) ∷ tests) = number ∷ numbers tests
+
+pub one-of-numbers : (tests : List Test) → (refusal tests ≡ 0 → ⊥) → among (refusal tests) (numbers tests) ≡ true
+unfolding judge
+one-of-numbers [] h = absurd (h refl)
+one-of-numbers ((true refuses number at place) ∷ tests) h = rw (eq-eqb number number refl)
+one-of-numbers ((false refuses number at place) ∷ tests) h = rw (one-of-numbers tests h, or-true)
 
 -- a call answers one thing where nothing refuses it, and else another with the refusal's number: that number is its answer's
 pub answer-number : {A : Type 0} (number : A → ℕ) (r : ℕ) (taken refused : A) → number taken ≡ 0 → number refused ≡ r

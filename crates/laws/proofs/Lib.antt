@@ -11,8 +11,10 @@ pub mod Lowest
 pub mod Shapes
 pub mod Bodies
 pub mod Sound
+pub mod Ready
 pub mod Passed
 pub mod Answers
+pub mod Told
 pub mod Kind
 pub mod Named
 pub mod Narrow

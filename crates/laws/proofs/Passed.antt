@@ -20,6 +20,7 @@ use Rattle.laws.proofs.Choice.{neither}
 use Rattle.laws.proofs.Places.{each-at, each-all}
 use Rattle.laws.proofs.Judge.{unrefused, judge-then}
 use Rattle.laws.proofs.Sound.{sound-means}
+use Rattle.laws.proofs.Ready.{ready-else, ready-alone}
 
 pub lights-passed : (list : List ℕ) (s : State) → (refusal (lights-tests list s) ≡ 0) ↔ Known list s
 lights-passed list s =
@@ -83,16 +84,19 @@ pick-passed list s p =
     let tests = unrefused (pick-tests list s p) refl in (
       λ h.
           let t = tests .0 h in
+          let station = leb-false (s .n) (p .station) (t .0) in
           record {
-            station = leb-false (s .n) (p .station) (t .0);
-            enabled = not-false _ (t .1 .0);
-            in-turn = not-false _ (t .1 .1 .0);
-            reset = ltb-false (s .b) (p .reset) (t .1 .1 .1 .0);
+            station = station;
+            enabled = ready-else list s (p .station) station (t .1 .0) (t .1 .1 .0);
+            in-turn = not-false _ (t .1 .1 .1 .0);
+            reset = ltb-false (s .b) (p .reset) (t .1 .1 .1 .1 .0);
           },
-      λ h. tests .1 (
-        lt-leb (s .n) (p .station) (h .station),
-        (rw (h .enabled), (rw (h .in-turn), (le-ltb (s .b) (p .reset) (h .reset), tt))),
-      ),
+      λ h.
+          let (going, free) = ready-alone list s (p .station) (h .station) (h .enabled) in
+          tests .1 (
+            lt-leb (s .n) (p .station) (h .station),
+            (going, (free, (rw (h .in-turn), (le-ltb (s .b) (p .reset) (h .reset), tt)))),
+          ),
     )
 
 -- where nothing refuses a step before its pick, the pick's tests decide

@@ -1,11 +1,11 @@
 -- What a sound list says of its records and a sound state of its stations, place by place. Assumes nothing.
-use mathlib.Core.Path.{_≡_}
+use mathlib.Core.Path.{_≡_, sym, _∙_}
 use mathlib.Core.Logic.{_↔_, _⊎_, inl, inr}
-use mathlib.Core.Bool.{Bool, true, and-false}
+use mathlib.Core.Bool.{Bool, true, false, not, and-false}
 use mathlib.Core.List.{List}
 use Prim.Native.Nat.{ℕ, suc, _+_, _*_, _-_, _%_, _≤_, _<_}
 use native.Mathlib.Omega.{arith}
-use borrow.Author.Tests.{leb-true, le-leb, ltb-true, eqb-true, eq-eqb}
+use borrow.Author.Tests.{leb-true, le-leb, ltb-true, eqb-true, eq-eqb, not-false}
 use lib.Dec.{eqb, leb, ltb}
 use lib.ListN.{length}
 use lib.IntN.{pos}
@@ -168,3 +168,8 @@ module _ {list : List ℕ} {s : State} (known : Known list s) where
 
   pub at-most-eight : s .n ≤ max-stations
   at-most-eight = omega (arith, few-stations list (known .of-list), stations-are)
+
+-- where two tests of code are those of 7 and 8, and both passed
+pub sound-both : {list : List ℕ} {s : State} {a b : Bool}
+    → a ≡ sound-list list → not a ≡ false → b ≡ sound-state list s → not b ≡ false → Known list s
+sound-both {a = a} {b = b} e p f q = record { of-list = sym e ∙ not-false a p; of-state = sym f ∙ not-false b q }

@@ -1,3 +1,4 @@
 pub mod Passed
+pub mod Tells
 pub mod Number
 pub mod Narrow

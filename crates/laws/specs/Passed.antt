@@ -31,7 +31,7 @@ pub record CanStep (list : List ℕ) (s : State) (log : List ℕ) : Type 0 where
   pub steps-left : s .m < max-steps
   pub room : 2 * (s .n + s .m + 1) ≤ length log
 
--- what its pick needs: none of 10 to 13
+-- what its pick needs: none of 10, 16, 11, 12 and 13
 pub record CanPick (list : List ℕ) (s : State) (p : Pick) : Type 0 where
   pub station : p .station < s .n
   pub enabled : ready list s (p .station) ≡ true

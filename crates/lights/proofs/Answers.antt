@@ -1,15 +1,14 @@
 -- A refusal's answer, and that of all stations' masks in a sound state, are the rules' lights. Assumes nothing.
-use mathlib.Core.Path.{_≡_, sym, _∙_}
-use mathlib.Core.Bool.{Bool, true, false, not}
+use mathlib.Core.Path.{_≡_, _∙_}
+use mathlib.Core.Bool.{true, false}
 use mathlib.Core.List.{List, [], _∷_}
 use Prim.Native.Nat.{ℕ, _≤_}
 use native.Mathlib.Nat.{min-eq-left}
-use borrow.Author.Tests.{not-false}
 use Rattle.rules.specs.Words.{judge}
 use Rattle.rules.specs.Names.{LIST, STATE, max-stations}
 use Rattle.rules.specs.List.{sound-list}
 use Rattle.rules.specs.State.{State, sound-state}
-use Rattle.rules.specs.Ready.{ready, waiting, ended, lowest}
+use Rattle.rules.specs.Ready.{readiness, ready, waiting, ended, lowest}
 use Rattle.rules.specs.Lights.{reads, writes, in-turn, lights}
 use Rattle.laws.specs.Passed.{Known}
 use Rattle.laws.proofs.Sound.{at-most-eight}
@@ -29,15 +28,10 @@ pub refused-state : (list : List ℕ) (s : State) → sound-list list ≡ true �
 unfolding lights judge
 refused-state list s e d = rw (e, d)
 
--- both tests of the code passed
-pub sound-both : {list : List ℕ} {s : State} {a b : Bool}
-    → a ≡ sound-list list → not a ≡ false → b ≡ sound-state list s → not b ≡ false → Known list s
-sound-both {a = a} {b = b} e p f q = record { of-list = sym e ∙ not-false a p; of-state = sym f ∙ not-false b q }
-
 -- the masks of a state's parts are those of the state, where it has at most eight stations
 of-parts : (list : List ℕ) (s : State) → s .n ≤ max-stations
     → masks-from list (state-of (s .vars) (s .positions) (s .priorities) (s .n)) 0 ≡ masks-from list s 0
-unfolding ready waiting ended lowest
+unfolding readiness ready waiting ended lowest
 of-parts list s few = rw (min-eq-left few)
 
 pub gathered-all : (list : List ℕ) (s : State) → Known list s → (r : Masks)

@@ -4,3 +4,4 @@ pub mod Bits
 pub mod Touched
 pub mod Shown
 pub mod Only
+pub mod Split

@@ -13,7 +13,7 @@ use Rattle.lit.specs.Lit.{bit, Marks, MarksRow, ShowsOnly}
 use Rattle.lit.proofs.Bits.{bits-same}
 
 -- two tests of which each holds where the other does are the same
-same-test : (a b : Bool) → (a ≡ true → b ≡ true) → (b ≡ true → a ≡ true) → a ≡ b
+pub same-test : (a b : Bool) → (a ≡ true → b ≡ true) → (b ≡ true → a ≡ true) → a ≡ b
 same-test true b there back = sym (there refl)
 same-test false true there back = back refl
 same-test false false there back = refl

@@ -1,10 +1,11 @@
 -- What an answer of LIGHTS shows of a list and a state, bit by bit, without regard to how it is computed; and the claims that the rules'
--- answer shows this, and that no second answer does. proofs/Shown.antt and proofs/Only.antt show them.
+-- answer shows this, that three of its masks split the stations, and that no second answer shows the same. proofs/Shown.antt,
+-- proofs/Split.antt and proofs/Only.antt show them.
 use mathlib.Core.Path.{_≡_}
 use mathlib.Core.Logic.{_↔_}
-use mathlib.Core.Bool.{Bool, true}
+use mathlib.Core.Bool.{Bool, true, false}
 use mathlib.Core.List.{List, []}
-use Prim.Native.Nat.{ℕ, zero, suc, _/_, _%_, _<_}
+use Prim.Native.Nat.{ℕ, zero, suc, _/_, _%_, _≤_, _<_}
 use lib.Dec.{eqb}
 use lib.ListN.{length, getD}
 use lib.Signed.{leZ}
@@ -14,6 +15,7 @@ use Rattle.rules.specs.State.{State, priority}
 use Rattle.rules.specs.Ready.{next-step, ready, waiting, ended}
 use Rattle.rules.specs.Lights.{reads, writes, Lights}
 use Rattle.rules.specs.Calls.{Seven}
+use Rattle.laws.specs.Tells.{ExactlyOne}
 use Rattle.lit.specs.Reached.{Reached}
 
 -- bit i of a mask
@@ -52,6 +54,15 @@ pub record Shows (list : List ℕ) (s : State) (a : Lights) : Type 0 where
   pub two-rows : length (a .rows) ≡ 2
   pub on-reads : MarksRow s (getD (a .rows) 0 []) (λ v j. Touches (reads v) list s j)
   pub on-writes : MarksRow s (getD (a .rows) 1 []) (λ v j. Touches (writes v) list s j)
+
+-- the masks of the ready, the ended and the waiting split the n stations: each of those has exactly one of the three bits, and no other
+-- bit is lit
+pub record Splits (s : State) (a : Lights) : Type 0 where
+  pub each-once : (j : ℕ) → j < s .n → ExactlyOne (bit (a .ready) j) (bit (a .ended) j) (bit (a .waiting) j)
+  pub no-others : (j : ℕ) → s .n ≤ j → (bit (a .ready) j ≡ false) × (bit (a .ended) j ≡ false) × (bit (a .waiting) j ≡ false)
+
+abbrev pub MasksSplit : Seven → Type 0
+MasksSplit bench = (list : List ℕ) (s : State) → bench .lights list s .number ≡ 0 → Splits s (bench .lights list s)
 
 -- an answer that is not a refusal shows this, of any seven calls
 abbrev pub LightsShow : Seven → Type 0

@@ -1,26 +1,24 @@
 -- The masks of the stations from one on: of no station, of one more, and of all of them, which on a sound list are those of the rules'
 -- lights. Assumes nothing.
-use mathlib.Core.Path.{_≡_, _∙_}
+use mathlib.Core.Path.{_≡_, sym, _∙_}
 use mathlib.Core.Bool.{Bool, true, false, _&&_}
 use mathlib.Core.List.{List}
 use Prim.Native.Nat.{ℕ, zero, suc, _+_, _≤_, _<_, min}
-use native.Mathlib.Nat.{min-eq-left, min-eq-right, not-suc-le-zero, le-of-suc-le-suc}
+use native.Mathlib.Nat.{min-le-left, min-le-right, not-suc-le-zero, le-of-suc-le-suc}
 use native.Mathlib.Omega.{arith}
-use borrow.Author.Tests.{leb-true, leb-false}
-use lib.Dec.{leb}
-use lib.IntN.{ℤ}
-use lib.ListN.{length, getD, replicate, List·getD-eq-default}
-use Rattle.rules.specs.Words.{each, values}
+use lib.ListN.{getD, replicate}
+use Rattle.rules.specs.Words.{each, values, changed}
 use Rattle.rules.specs.Names.{variables, max-stations}
 use Rattle.rules.specs.Records.{Record}
 use Rattle.rules.specs.List.{sound-list}
-use Rattle.rules.specs.State.{State, priority}
-use Rattle.rules.specs.Turn.{lowest-of}
-use Rattle.rules.specs.Ready.{next-step, ready-at, ready, waiting, ended}
+use Rattle.rules.specs.State.{State, position, priority}
+use Rattle.rules.specs.Turn.{yields-to, lowest-of}
+use Rattle.rules.specs.Ready.{Readiness, next-step, says-ready, ready, waiting, ended, lowest}
 use Rattle.rules.specs.Lights.{reads, writes, in-turn, row-of}
-use Rattle.laws.proofs.Choice.{by-test}
-use Rattle.laws.proofs.Places.{each-all, length-values, getD-values, values-same}
-use Rattle.stations.proofs.Known.{readied, ready-known, lowest-known}
+use Rattle.laws.proofs.Places.{each-all, each-same, getD-values, values-same}
+use Rattle.laws.proofs.Ready.{readiness-here, readiness-tells}
+use Rattle.stations.specs.Places.{readiness-by}
+use Rattle.stations.proofs.Known.{ready-known}
 use Rattle.touches.specs.Touched.{touched, touched-by}
 use Rattle.touches.proofs.Sound.{touches-so}
 use Rattle.touches.specs.declared.Touched.{Touched}
@@ -35,17 +33,6 @@ each-before f zero n within h = each-all f n (λ i l. h i (omega arith))
 each-before f (suc m) zero within h = absurd (not-suc-le-zero within)
 each-before f (suc m) (suc n) within h =
     rw (each-before (λ i. f (suc i)) m n (le-of-suc-le-suc within) (λ i l. h (suc i) (omega arith)))
-
--- no station past the eighth is ready, so that none of those is lower
-lowest-few : {all : List Bool} (f : ℕ → Bool) (n : ℕ) (priority : ℕ → ℤ) (j : ℕ) → all ≡ values f max-stations
-    → lowest-of n (λ i. getD all i false) priority j ≡ lowest-of (min n max-stations) (λ i. getD all i false) priority j
-lowest-few {all = all} f n priority j known =
-    let long : length all ≡ max-stations = rw known (length-values f max-stations) in
-    by-test (leb n max-stations) (λ e. rw (min-eq-left (leb-true n max-stations e)))
-    (λ e.
-    let past : max-stations ≤ n = omega (arith, leb-false n max-stations e) in
-    rw (min-eq-right past)
-    (each-before _ max-stations n past (λ i l. rw (List·getD-eq-default all false {n = i} (omega (arith, long))))))
 
 module _ (list : List ℕ) (s : State) where
   -- whether station j's next step does this
@@ -78,15 +65,21 @@ module _ (list : List ℕ) (s : State) where
         ← mask-from-none (ended list s) (s .n),
       )
 
-  -- one station more: whether it is ready and in turn, of the readiness that was worked out
-  pub turn-known : {all : List Bool} {j : ℕ} {turn : Bool} (n : ℕ)
-      → all ≡ values (λ i. ready-at (s .vars) (next-step list s i)) max-stations → s .n ≤ max-stations → j < s .n
-      → min n max-stations ≡ s .n → turn ≡ (getD all j false && lowest-of n (λ i. getD all i false) (priority s) j)
-      → (getD all j false ≡ ready list s j) × (turn ≡ in-turn list s j)
-  turn-known {j = j} n all few station count turn =
-      let known = readied list s all in
-      let here = ready-known list s known few j station in
-      (here, rw (turn, here, lowest-few (ready list s) n (priority s) j known, count, lowest-known list s known few j))
+  -- one station more: whether it is in turn, of the readiness that was worked out. From n on none is ready, so that none of those is lower
+  pub turn-known : {all : List Bool} {turn : Bool} (n j : ℕ) → min n max-stations ≡ s .n
+      → all ≡ changed (λ i was. says-ready (readiness-by list (s .vars) (position s i))) (s .n) (replicate max-stations false)
+      → turn ≡ (getD all j false && lowest-of n (λ i. getD all i false) (priority s) j)
+      → turn ≡ in-turn list s j
+  unfolding lowest
+  turn-known {all = all} n j count is turn =
+      let known = ready-known list s (omega (arith, min-le-right n max-stations)) is in
+      let yields : ℕ → Bool = λ i. yields-to (getD all i false) (priority s j) (priority s i) in
+      rw (
+        turn,
+        known j,
+        each-before yields (s .n) n (omega (arith, min-le-left n max-stations)) (λ i past. rw (known i, readiness-tells list s .of-none i past .1)),
+        each-same yields (λ i. yields-to (ready list s i) (priority s j) (priority s i)) (s .n) (λ i l. rw (known i)),
+      )
 
   row-more : (does : ℕ → Record → Bool) (j : ℕ) → j < s .n
       → row-with (values (λ v. by-step (does v) j) variables) (row-from does list s (j + 1)) ≡ row-from does list s j
@@ -99,18 +92,17 @@ module _ (list : List ℕ) (s : State) where
       )
       (mask-from-more (by-step (does v)) (s .n) j within))
 
-  pub gathered-more : {r masks : Masks} {j : ℕ} {a b c d : Bool} {t : Touched}
-      → r ≡ with-station masks a b c d t → j < s .n → masks ≡ masks-from list s (j + 1)
-      → a ≡ ready list s j → b ≡ in-turn list s j → c ≡ waiting list s j → d ≡ ended list s j → t ≡ touched-by list (next-step list s j)
+  pub gathered-more : {r masks : Masks} {j : ℕ} {case : Readiness} {turn : Bool} {t : Touched}
+      → r ≡ with-station masks case turn t → j < s .n → masks ≡ masks-from list s (j + 1)
+      → case ≡ readiness-by list (s .vars) (position s j) → turn ≡ in-turn list s j → t ≡ touched-by list (next-step list s j)
       → r ≡ masks-from list s j
-  gathered-more {j = j} gathered station so-far a b c d t =
+  unfolding ready waiting ended
+  gathered-more {j = j} gathered station so-far case turn t =
       rw (
         gathered,
         so-far,
-        a,
-        b,
-        c,
-        d,
+        case ∙ sym (readiness-here list s j station),
+        turn,
         t,
         mask-from-more (ready list s) (s .n) j,
         mask-from-more (in-turn list s) (s .n) j,

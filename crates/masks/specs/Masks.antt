@@ -8,7 +8,7 @@ use Rattle.rules.specs.Words.{if_then_else_, mask, values}
 use Rattle.rules.specs.Names.{variables, max-stations}
 use Rattle.rules.specs.Records.{Record}
 use Rattle.rules.specs.State.{State, stepless}
-use Rattle.rules.specs.Ready.{next-step, ready, waiting, ended}
+use Rattle.rules.specs.Ready.{Readiness, next-step, says-ready, says-ended, says-waiting, ready, waiting, ended}
 use Rattle.rules.specs.Lights.{reads, writes, in-turn}
 use Rattle.touches.specs.Touched.{touched}
 use Rattle.touches.specs.declared.Touched.{Touched}
@@ -59,13 +59,13 @@ abbrev pub row-with : List Bool → List ℕ → List ℕ
 row-with touched row = values (λ v. with-bit (getD touched v false) (getD row v 0)) variables
 
 -- the masks with a station more before their own
-abbrev pub with-station : Masks → Bool → Bool → Bool → Bool → Touched → Masks
-with-station masks ready in-turn waiting ended touched =
+abbrev pub with-station : Masks → Readiness → Bool → Touched → Masks
+with-station masks case in-turn touched =
     record {
-      ready = with-bit ready (masks .ready);
+      ready = with-bit (says-ready case) (masks .ready);
       «in_turn» = with-bit in-turn (masks .«in_turn»);
-      waiting = with-bit waiting (masks .waiting);
-      ended = with-bit ended (masks .ended);
+      waiting = with-bit (says-waiting case) (masks .waiting);
+      ended = with-bit (says-ended case) (masks .ended);
       reads = row-with (touched .reads) (masks .reads);
       writes = row-with (touched .writes) (masks .writes);
     }

@@ -6,7 +6,9 @@ ghost use mathlib.Core.Bool.{false};
 ghost use lib.ListN.{getD};
 ghost use Rattle.rules.specs.Words.{values};
 ghost use Rattle.rules.specs.Names.{variables};
+ghost use Rattle.readiness.specs.View.{as-readiness};
 ghost use Rattle.masks.specs.Masks.{with-bit, with-station, state-of, masks-from, Room};
+use readiness::Readiness;
 use record::ListRecord;
 use record::Record;
 use touches::Touched;
@@ -23,8 +25,9 @@ pub struct Masks {
 }
 
 impl Masks {
-    // The masks of the first n stations, at most eight, of a list, the variables, positions and priorities. Readiness is worked out once.
-    // The lowest is sought among as many stations as are given: past the eighth none is ready.
+    // The masks of the first n stations, at most eight, of a list, the variables, positions and priorities. Which of them are ready is
+    // worked out before the loop, since whether one is the lowest asks all of them; which case each is, in it. The lowest is sought among
+    // as many stations as are given: past the eighth none is ready.
     pub fn of(
         list: &[u8],
         vars: &[u32; 32],
@@ -35,7 +38,7 @@ impl Masks {
         ensures { λ r. ⌜ r ≡ masks-from (now (list .entry)) (state-of (now (vars .entry)) positions priorities n) 0 ⌝ }
     {
         let given = n as usize;
-        let all = stations::readiness(list, vars, positions);
+        let all = stations::ready(list, vars, positions, given);
         let mut masks = Masks {
             ready: 0,
             in_turn: 0,
@@ -50,36 +53,29 @@ impl Masks {
         }
         while 0 < j {
             j -= 1;
-            let e = ListRecord::at(list, positions[j] as usize);
+            let place = positions[j];
+            let e = ListRecord::at(list, place as usize);
+            let case = Readiness::at(vars, e, place);
             let in_turn = all[j] && stations::lowest_of(all, priorities, given, j);
-            let waiting = stations::waiting_at(vars, e);
-            let ended = stations::ended_at(e);
-            masks = masks.with_station(all[j], in_turn, waiting, ended, Touched::of(list, e));
+            masks = masks.with_station(case, in_turn, Touched::of(list, e));
         }
         masks
     }
 
     // The masks with a station more before their own, of which this is known.
-    fn with_station(
-        self,
-        ready: bool,
-        in_turn: bool,
-        waiting: bool,
-        ended: bool,
-        touched: Touched,
-    ) -> Masks
+    fn with_station(self, case: Readiness, in_turn: bool, touched: Touched) -> Masks
         requires { ⌜ Room self ⌝ }
-        ensures { λ r. ⌜ r ≡ with-station self ready «in_turn» waiting ended touched ⌝ }
+        ensures { λ r. ⌜ r ≡ with-station self (as-readiness case) «in_turn» touched ⌝ }
     {
         let read = touched.reads;
         let written = touched.writes;
         let reads = self.reads;
         let writes = self.writes;
         Masks {
-            ready: with_bit(self.ready, ready),
+            ready: with_bit(self.ready, case.is_ready()),
             in_turn: with_bit(self.in_turn, in_turn),
-            waiting: with_bit(self.waiting, waiting),
-            ended: with_bit(self.ended, ended),
+            waiting: with_bit(self.waiting, case.is_waiting()),
+            ended: with_bit(self.ended, case.has_ended()),
             reads: with_bits(reads, read),
             writes: with_bits(writes, written),
         }

@@ -4,10 +4,12 @@ ghost use Rattle.sequence.specs.Promises.{CheckPromise};
 ghost use Rattle.build.specs.Promises.{BuildPromise};
 ghost use Rattle.run.specs.View.{as-state};
 ghost use Rattle.run.specs.Promises.{StartPromise, StepPromise, RunPromise, UndoPromise};
+ghost use Rattle.asking.specs.Promises.{ReadinessPromise};
 ghost use Rattle.lights.specs.Promises.{LightsPromise};
 ghost use Rattle.lent.specs.Promises.{AdvancePromise};
 use build::Built;
 use lights::Lights;
+use readiness::Told;
 use run::Outcome;
 use run::Ran;
 use run::State;
@@ -88,6 +90,14 @@ pub extern "C" fn press_undo(state: State, list: &[u8], log: &[u8]) -> Outcome
     ensures { λ r. ⌜ UndoPromise (now (list .entry)) (as-state state) (now (log .entry)) r ⌝ }
 {
     state.undo(list, log)
+}
+
+// Whether a station is ready, has ended or is waiting, as the number that stands for it, and where it waits. Refused, the number and place 0.
+#[no_mangle]
+pub extern "C" fn press_readiness(state: State, list: &[u8], station: u8) -> Told
+    ensures { λ r. ⌜ ReadinessPromise (now (list .entry)) (as-state state) station r ⌝ }
+{
+    asking::readiness(state, list, station)
 }
 
 // Which stations are ready, in turn, waiting and ended, and which read and write each variable in their next steps. Refused, all zeros but

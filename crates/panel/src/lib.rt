@@ -6,6 +6,7 @@ pub use exports::press_advance;
 pub use exports::press_build;
 pub use exports::press_check;
 pub use exports::press_lights;
+pub use exports::press_readiness;
 pub use exports::press_run;
 pub use exports::press_start;
 pub use exports::press_step;

@@ -1,17 +1,14 @@
 -- On a list and a state that are sound a pick of the state's parts is the rules' pick. Assumes nothing.
-use Prim.Native.Nat.{ℕ, _≤_}
-use mathlib.Core.Path.{_≡_, sym, _∙_}
-use mathlib.Core.Bool.{Bool, false}
+use Prim.Native.Nat.{ℕ}
+use mathlib.Core.Path.{_≡_}
 use mathlib.Core.List.{List}
 use native.Mathlib.Nat.{min-eq-left}
-use native.Mathlib.Omega.{arith}
 use lib.Dec.{eqb}
 use lib.IntN.{pos}
 use Rattle.rules.specs.Words.{changed, refusal}
-use Rattle.rules.specs.Names.{max-stations}
 use Rattle.rules.specs.Records.{Pick}
 use Rattle.rules.specs.State.{State, priority}
-use Rattle.rules.specs.Ready.{ready, lowest}
+use Rattle.rules.specs.Ready.{readiness, ready, ended, waiting, lowest}
 use Rattle.rules.specs.Step.{charge, stepped, pick-tests, picked}
 use Rattle.laws.specs.Passed.{Known}
 use Rattle.laws.specs.Narrow.{narrow}
@@ -41,6 +38,6 @@ module _ (list : List ℕ) (s : State) (p : Pick) (known : Known list s) where
       by-test (eqb (refusal (pick-tests list s p)) 0) (λ e. rw (e, charge-known)) (λ e. rw (e, e))
 
   pub took-known : after s (took (narrow list) (state-of (s .vars) (s .positions) (s .priorities) (s .n) (s .b)) p) ≡ picked list s p
-  unfolding took ready lowest
+  unfolding took readiness ready ended waiting lowest
   took-known =
       rw (narrow-sound list (known .of-list), min-eq-left (at-most-eight known)) took-here

@@ -1,12 +1,12 @@
-// One pick, of the parts of a state: its tests 10 to 13, and the charge and the move of the station picked. The parts are changed where
+// One pick, of the parts of a state: its tests, and the charge and the move of the station picked. The parts are changed where
 // they are. Whatever is judged before the step is judged before anything is written, and the last test is made before a body runs.
 ghost use mathlib.Core.Path.{_≡_};
 ghost use Rattle.laws.specs.Narrow.{narrow};
 ghost use Rattle.picking.specs.Took.{state-of, took};
 use record::Record;
 
-// Picks a station, of any list and of the parts of any state, of eight stations at most: 0 and the step is taken, or the refusal of tests
-// 10 to 13 and nothing is changed.
+// Picks a station, of any list and of the parts of any state, of eight stations at most: 0 and the step is taken, or the refusal of the
+// pick, 10, 16, 11, 12 or 13, and nothing is changed.
 pub fn pick(
     list: &[u8],
     vars: &mut [u32; 32],
@@ -26,7 +26,12 @@ pub fn pick(
     let own = priorities[at];
     let mut all = [false; 8];
     let lowest = stations::judge(list, vars, positions, priorities, n, own, &mut all);
-    let number = stations::pick_refusal(all[at], lowest, b < reset);
+    let told = if all[at] {
+        0
+    } else {
+        stations::told_from(list, vars, positions[at])
+    };
+    let number = stations::pick_refusal(told, lowest, b < reset);
     if number != 0 {
         return number;
     }

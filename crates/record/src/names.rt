@@ -1,8 +1,8 @@
-// The document's names for its numbers, as constants of a record: the kinds, the refusals and the limits. They are the numbers of the rules.
+// The documents' names for their numbers, as constants of a record: the kinds, the refusals and the limits. They are the numbers of the rules.
 ghost use mathlib.Core.Path.{_≡_};
 ghost use mathlib.Core.List.{[], _∷_};
 ghost use Rattle.rules.specs.Names.{STATION, SKIP, SET, IF, ELSE, FI, WHILE, OD, AWAIT, END, INIT, STOP};
-ghost use Rattle.rules.specs.Names.{LENGTH, FIELD, COUNT, SHAPE, DEPTH, ROOM, LIST, STATE, FULL, COMPONENT, NOT-READY, TURN, RESET, EMPTY, LOG};
+ghost use Rattle.rules.specs.Names.{LENGTH, FIELD, COUNT, SHAPE, DEPTH, ROOM, LIST, STATE, FULL, COMPONENT, NOT-READY, TURN, RESET, EMPTY, LOG, ENDED};
 ghost use Rattle.rules.specs.Names.{max-records, max-stations, max-depth, variables, max-list, max-steps, no-station};
 use crate::Record;
 
@@ -64,6 +64,8 @@ impl Record {
 
     pub const LOG: u8 = 15;
 
+    pub const ENDED: u8 = 16;
+
     // Records of a written sequence, at most.
     pub const MAX_RECORDS: usize = 1024;
 
@@ -105,9 +107,9 @@ impl Record {
         ]
     }
 
-    // The refusals in order: the code's numbers are the document's.
-    pub fn refusals() -> [u8; 15]
-        ensures { λ r. ⌜ r ≡ LENGTH ∷ FIELD ∷ COUNT ∷ SHAPE ∷ DEPTH ∷ ROOM ∷ LIST ∷ STATE ∷ FULL ∷ COMPONENT ∷ NOT-READY ∷ TURN ∷ RESET ∷ EMPTY ∷ LOG ∷ [] ⌝ }
+    // The refusals in order: the code's numbers are the documents'.
+    pub fn refusals() -> [u8; 16]
+        ensures { λ r. ⌜ r ≡ LENGTH ∷ FIELD ∷ COUNT ∷ SHAPE ∷ DEPTH ∷ ROOM ∷ LIST ∷ STATE ∷ FULL ∷ COMPONENT ∷ NOT-READY ∷ TURN ∷ RESET ∷ EMPTY ∷ LOG ∷ ENDED ∷ [] ⌝ }
     {
         [
             Record::LENGTH,
@@ -125,6 +127,7 @@ impl Record {
             Record::RESET,
             Record::EMPTY,
             Record::LOG,
+            Record::ENDED,
         ]
     }
 

@@ -8,8 +8,8 @@ use mathlib.Core.List.{List, [], _∷_, _++_, map}
 use mathlib.Core.Option.{Option, none, some}
 use lib.ListN.{length, take, getD, replicate}
 use lib.IntN.{ℤ, pos, negsuc}
-use Rattle.rules.specs.Words.{each, first, tally, mask, values, changed, written, judge}
-use Rattle.rules.specs.Names.{LENGTH, FIELD, SHAPE, NOT-READY, TURN, RESET, STATION, SKIP, SET, IF, ELSE, FI, WHILE, OD, AWAIT, END, variables, max-stations, max-list}
+use Rattle.rules.specs.Words.{Answer, answer, each, first, tally, mask, values, changed, written, judge}
+use Rattle.rules.specs.Names.{LENGTH, FIELD, SHAPE, COMPONENT, NOT-READY, TURN, RESET, ENDED, STATION, SKIP, SET, IF, ELSE, FI, WHILE, OD, AWAIT, END, variables, max-stations, max-list}
 use Rattle.rules.specs.Records.{record-from, record-at, word-bytes, list-record-at}
 use Rattle.rules.specs.Fields.{rules-of, fields-right}
 use Rattle.rules.specs.Shape.{stride, wrong-at, walked, well-shaped, too-deep-at}
@@ -20,10 +20,11 @@ use Rattle.rules.specs.List.{stations, initials-after, is-at, init-right
 use Rattle.rules.specs.State.{State, zeros, few-low, empty-at, sound-state}
 use Rattle.rules.specs.Values.{set-value, holds}
 use Rattle.rules.specs.Start.{initial-run, started, start-records, start}
-use Rattle.rules.specs.Ready.{ended, waiting, ready, lowest}
+use Rattle.rules.specs.Ready.{readiness-at, readiness, ended, waiting, ready, lowest}
 use Rattle.rules.specs.Move.{body-run, step-vars, step-position}
 use Rattle.rules.specs.Step.{charge, stepped, picked, step}
 use Rattle.rules.specs.Undo.{replay, starts-right, replayed, undo}
+use Rattle.rules.specs.Asked.{asked}
 use Rattle.rules.specs.Lights.{reads, writes, led-to, body, some-of, touches, lights}
 use Rattle.rules.specs.Trace.{decimal-digits, priorities-text, line, end-line, taken-pick, picks-text, run-text, start-text, trace}
 use Rattle.rules.specs.Calls.{ruled}
@@ -107,13 +108,15 @@ data Row : Type 0 where
   passes : List ℕ → List Call → ℕ → ℕ → Row
   -- a file, a start's B and resets, calls after it, and a station; that this was B+n-1 times
   passes-most : List ℕ → ℕ → List ℕ → List Call → ℕ → Row
+  -- a file, and calls on its list; what the readiness of each station, and of one more, tells in the last state answered
+  tells : List ℕ → List Call → List Answer → Row
   -- a file, B, the resets, and a variable; its read mask and its write mask at the start
   lights-up : List ℕ → ℕ → List ℕ → ℕ → ℕ → ℕ → Row
   -- the three files of the trace program; what it prints
   prints : List ℕ → List ℕ → List ℕ → List ℕ → Row
 
 abbrev Holds : Row → Type 0
-Holds (checks file number place) = check file ≡ record { number = number; place = place }
+Holds (checks file number place) = check file ≡ answer number place
 Holds (right bytes answer) = fields-right (record-at bytes 0) ≡ answer
 Holds (lists file count bytes) =
     build file (replicate (16 * count) 7 ++ junk) ≡ record { number = 0; place = 0; count = count; buffer = bytes ++ junk }
@@ -122,6 +125,9 @@ Holds (leaves file cs count) = height-of (calls-from ruled (list-made file) fres
 Holds (passes file cs j times) = passed-in (list-made file) j (calls-from ruled (list-made file) fresh cs .standing) ≡ times
 Holds (passes-most file b resets cs j) =
     passed-in (list-made file) j (calls-from ruled (list-made file) fresh (START b resets ∷ cs) .standing) ≡ b + stations (list-made file) - 1
+Holds (tells file cs told) =
+    let s = calls-from ruled (list-made file) fresh cs .state in
+    values (asked (list-made file) s) (s .n + 1) ≡ told
 Holds (lights-up file b resets v read write) =
     let begins = start (list-made file) b resets junk in
     let lit = lights (list-made file) (begins .state) in
@@ -222,6 +228,12 @@ table =
     ++ (17 ∷ 0 ∷ 0 ∷ 0 ∷ 0 ∷ 0 ∷ 0 ∷ 0 ∷ 1 ∷ 0 ∷ 0 ∷ 0 ∷ 0 ∷ 0 ∷ 0 ∷ 0 ∷ []))
     -- With B = 0 and resets 0, 0, picking 1 first is NOT READY
     ∷ plays dryer (START 0 (0 ∷ 0 ∷ []) ∷ pick 1 0 ∷ []) (goes dryer-0 ∷ refused NOT-READY dryer-0 ∷ [])
+    -- ours: it waits at record 4; released, it is ready, and station 0 has ended, whose pick is ENDED
+    ∷ tells dryer (START 0 (0 ∷ 0 ∷ []) ∷ []) (answer 0 0 ∷ answer NOT-READY 4 ∷ answer COMPONENT 0 ∷ [])
+    ∷ tells dryer (START 0 (0 ∷ 0 ∷ []) ∷ pick 0 0 ∷ []) (answer ENDED 0 ∷ answer 0 0 ∷ answer COMPONENT 0 ∷ [])
+    ∷ plays dryer (START 0 (0 ∷ 0 ∷ []) ∷ pick 0 0 ∷ pick 0 0 ∷ []) (goes dryer-0 ∷ goes dryer-1 ∷ refused ENDED dryer-1 ∷ [])
+    -- ours: and after the undo of that step it waits again
+    ∷ tells dryer (START 0 (0 ∷ 0 ∷ []) ∷ pick 0 0 ∷ UNDO ∷ []) (answer 0 0 ∷ answer NOT-READY 4 ∷ answer COMPONENT 0 ∷ [])
     -- At the start variable 0 has read mask 2 and write mask 3
     ∷ lights-up dryer 0 (0 ∷ 0 ∷ []) 0 2 3
     -- ours: while it waits it is not passed over, though the step releases it
@@ -241,10 +253,15 @@ table =
     ++ (49 ∷ 32 ∷ 50 ∷ 32 ∷ 50 ∷ 32 ∷ 48 ∷ 32 ∷ 48 ∷ 10 ∷ [])
     ++ (48 ∷ 32 ∷ 49 ∷ 32 ∷ 49 ∷ 32 ∷ 48 ∷ 32 ∷ 48 ∷ 10 ∷ [])
     ++ (101 ∷ 110 ∷ 100 ∷ 32 ∷ 48 ∷ 10 ∷ []))
+    -- ours: and with picks (0,0) (0,0): 0 1 1 0 0; 1 2 2 0 0; end 16
+    ∷ prints dryer (0 ∷ 0 ∷ 0 ∷ []) (0 ∷ 0 ∷ 0 ∷ 0 ∷ [])
+    ((48 ∷ 32 ∷ 49 ∷ 32 ∷ 49 ∷ 32 ∷ 48 ∷ 32 ∷ 48 ∷ 10 ∷ [])
+    ++ (49 ∷ 32 ∷ 50 ∷ 32 ∷ 50 ∷ 32 ∷ 48 ∷ 32 ∷ 48 ∷ 10 ∷ [])
+    ++ (101 ∷ 110 ∷ 100 ∷ 32 ∷ 49 ∷ 54 ∷ 10 ∷ []))
     ∷ []
 
 all-hold : Every table
-unfolding each first tally mask values changed written judge record-from list-record-at rules-of fields-right stride wrong-at walked well-shaped too-deep-at check wrong-length field-place station-count depth-place parts-of stations-of leading-sets initial-part size laid inits bodies list-of bytes-of build stations initials-after is-at init-right initial-right outside-targets inside-target inside-targets later-right sound-list few-low empty-at sound-state set-value holds initial-run started start-records start ended waiting ready lowest body-run step-vars step-position charge stepped picked step replay starts-right replayed undo reads writes led-to body some-of touches lights decimal-digits priorities-text line end-line taken-pick picks-text run-text start-text trace stepped-on called calls-from answers passed-over
+unfolding each first tally mask values changed written judge record-from list-record-at rules-of fields-right stride wrong-at walked well-shaped too-deep-at check wrong-length field-place station-count depth-place parts-of stations-of leading-sets initial-part size laid inits bodies list-of bytes-of build stations initials-after is-at init-right initial-right outside-targets inside-target inside-targets later-right sound-list few-low empty-at sound-state set-value holds initial-run started start-records start readiness-at readiness ended waiting ready lowest body-run step-vars step-position charge stepped picked step replay starts-right replayed undo asked reads writes led-to body some-of touches lights decimal-digits priorities-text line end-line taken-pick picks-text run-text start-text trace stepped-on called calls-from answers passed-over
 all-hold =
     refl and refl and refl and refl and refl and refl and refl and refl and refl and refl
-    and refl and refl and refl and refl and refl and refl and refl and refl and refl and refl and refl and refl and refl and refl and done
+    and refl and refl and refl and refl and refl and refl and refl and refl and refl and refl and refl and refl and refl and refl and refl and refl and refl and refl and refl and done

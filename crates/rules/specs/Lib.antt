@@ -1,4 +1,4 @@
--- Document 01's rules, in its order. Read them from the top, with the document beside them.
+-- Document 01's rules as docs/AMENDMENTS.md amends them, in its order. Read them from the top, with both beside them.
 pub mod Words
 pub mod Names
 pub mod Records
@@ -17,6 +17,7 @@ pub mod Move
 pub mod Step
 pub mod Run
 pub mod Undo
+pub mod Asked
 pub mod Lights
 pub mod Trace
 pub mod Calls

@@ -1,4 +1,4 @@
--- The document's names for its numbers: kinds of records, refusals, limits. These are definitions.
+-- The documents' names for their numbers: kinds of records, refusals, limits. These are definitions.
 use Prim.Native.Nat.{ℕ}
 
 -- kinds of the written sequence
@@ -84,6 +84,9 @@ EMPTY = 14
 
 abbrev pub LOG : ℕ
 LOG = 15
+
+abbrev pub ENDED : ℕ
+ENDED = 16
 
 -- limits
 -- records of a written sequence, at most

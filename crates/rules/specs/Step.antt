@@ -6,12 +6,12 @@ use lib.Dec.{eqb, leb, ltb}
 use lib.ListN.{length}
 use lib.IntN.{ℤ}
 use Rattle.rules.specs.Words.{if_then_else_, written, Test, _refuses_at_, refusal}
-use Rattle.rules.specs.Names.{LIST, STATE, FULL, ROOM, COMPONENT, NOT-READY, TURN, RESET, max-steps}
+use Rattle.rules.specs.Names.{LIST, STATE, FULL, ROOM, COMPONENT, ENDED, NOT-READY, TURN, RESET, max-steps}
 use Rattle.rules.specs.Records.{Pick, pick-bytes}
 use Rattle.rules.specs.List.{sound-list}
 use Rattle.rules.specs.State.{State, one-step-on, sound-state}
 use Rattle.rules.specs.Turn.{charge-of}
-use Rattle.rules.specs.Ready.{ready, lowest}
+use Rattle.rules.specs.Ready.{ready, ended, waiting, lowest}
 use Rattle.rules.specs.Move.{moved}
 
 -- "Readiness is judged before the step"
@@ -24,11 +24,12 @@ stepped list s p =
     let after = moved list (s .vars) (s .positions) (p .station) in
     one-step-on s (after .vars) (after .positions) (charge list s p)
 
--- tests 10 to 13
+-- the pick's own: 10, 16, 11, 12, 13
 abbrev pub pick-tests : List ℕ → State → Pick → List Test
 pick-tests list s p =
     (leb (s .n) (p .station) refuses COMPONENT at 0)
-    ∷ (not (ready list s (p .station)) refuses NOT-READY at 0)
+    ∷ (ended list s (p .station) refuses ENDED at 0)
+    ∷ (waiting list s (p .station) refuses NOT-READY at 0)
     ∷ (not (lowest list s (p .station)) refuses TURN at 0)
     ∷ (ltb (s .b) (p .reset) refuses RESET at 0)
     ∷ []
@@ -43,7 +44,7 @@ picked list s p =
     let number = refusal (pick-tests list s p) in
     if eqb number 0 then record { number = 0; state = stepped list s p } else record { number = number; state = s }
 
--- "Step's order is 7, 8, 9, 6, 10, 11, 12, 13": what is tested before the pick
+-- "Step's order is 7, 8, 9, 6, 10, 11, 12, 13", with document 02's 16 "just before 11": what is tested before the pick
 abbrev pub before-pick : List ℕ → State → List ℕ → List Test
 before-pick list s log =
     (not (sound-list list) refuses LIST at 0)

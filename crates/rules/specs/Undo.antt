@@ -16,7 +16,7 @@ pub record Undone : Type 0 where
   pub number : ℕ
   pub state : State
 
--- so many steps of a log, from record i on, each by step's own tests 10 to 13
+-- so many steps of a log, from record i on, each by step's own tests of a pick
 unfoldable pub replay : List ℕ → List ℕ → ℕ → ℕ → State → Undone
 replay list log i zero s = record { number = 0; state = s }
 replay list log i (suc count) s =

@@ -59,6 +59,9 @@ pub record Answer : Type 0 where
   pub number : ℕ
   pub place : ℕ
 
+abbrev pub answer : ℕ → ℕ → Answer
+answer number place = record { number = number; place = place }
+
 -- a test that may refuse: where it holds, with this number, at this place
 pub data Test : Type 0 where
   _refuses_at_ : Bool → ℕ → ℕ → Test

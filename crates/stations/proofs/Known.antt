@@ -1,26 +1,33 @@
--- Readiness and turn, answered from the readiness of the stations, which is worked out once. Assumes nothing.
-use Prim.Native.Nat.{ℕ, _≤_, _<_}
-use mathlib.Core.Path.{_≡_}
+-- Which stations are ready, filled in for those of the list, is which are ready in the rules' words. Assumes nothing.
+use Prim.Native.Nat.{ℕ, zero, suc, _≤_}
+use mathlib.Core.Path.{_≡_, refl, _∙_}
 use mathlib.Core.Bool.{Bool, false}
 use mathlib.Core.List.{List}
 use native.Mathlib.Omega.{arith}
-use lib.ListN.{getD}
-use Rattle.rules.specs.Words.{values}
+use borrow.Author.Tests.{ltb-true, ltb-false}
+use lib.Dec.{ltb}
+use lib.ListN.{getD, replicate, length-replicate}
+use Rattle.rules.specs.Words.{changed}
 use Rattle.rules.specs.Names.{max-stations}
-use Rattle.rules.specs.State.{State, priority}
-use Rattle.rules.specs.Ready.{next-step, ready, lowest, ready-at}
-use Rattle.laws.proofs.Places.{each-same, getD-values}
-use Rattle.rules.specs.Turn.{lowest-of}
+use Rattle.rules.specs.State.{State, position}
+use Rattle.rules.specs.Ready.{says-ready, readiness, ready}
+use Rattle.laws.proofs.Choice.{by-test}
+use Rattle.laws.proofs.Changed.{changed-at, changed-past}
+use Rattle.stations.specs.Places.{readiness-by}
 
-module _ (list : List ℕ) (s : State) {all : List Bool} where
-  pub readied : all ≡ values (λ j. ready-at (s .vars) (next-step list s j)) max-stations → all ≡ values (ready list s) max-stations
-  unfolding ready
-  readied known = known
+-- none is ready at first
+none : (n j : ℕ) → getD (replicate n false) j false ≡ false
+none zero j = refl
+none (suc n) zero = refl
+none (suc n) (suc j) = none n j
 
-  module _ (known : all ≡ values (ready list s) max-stations) (few : s .n ≤ max-stations) where
-    pub ready-known : (j : ℕ) → j < s .n → getD all j false ≡ ready list s j
-    ready-known j of-list = rw known (getD-values (ready list s) max-stations j false (omega arith))
-
-    pub lowest-known : (i : ℕ) → lowest-of (s .n) (λ j. getD all j false) (priority s) i ≡ lowest list s i
-    unfolding lowest
-    lowest-known i = each-same _ _ (s .n) (λ j of-list. rw (ready-known j of-list))
+module _ (list : List ℕ) (s : State) {all : List Bool} (few : s .n ≤ max-stations)
+    (is : all ≡ changed (λ j was. says-ready (readiness-by list (s .vars) (position s j))) (s .n) (replicate max-stations false)) where
+  pub ready-known : (j : ℕ) → getD all j false ≡ ready list s j
+  unfolding ready readiness
+  ready-known j =
+      let eight = length-replicate max-stations false in
+      let judged : ℕ → Bool → Bool = λ j was. says-ready (readiness-by list (s .vars) (position s j)) in
+      by-test (ltb j (s .n))
+      (λ e. let l = ltb-true j (s .n) e in rw (is, e) (changed-at judged (s .n) (replicate max-stations false) j false l (omega arith)))
+      (λ e. rw (is, e) (changed-past judged (s .n) (replicate max-stations false) j false (ltb-false j (s .n) e) ∙ none max-stations j))

@@ -1,2 +1,2 @@
--- Readiness by a list as a run reads it.
-pub mod Narrowed
+-- Readiness by the place where a station stands.
+pub mod Places

@@ -3,55 +3,34 @@
 ghost use mathlib.Core.Path.{_≡_};
 ghost use mathlib.Core.Bool.{false, not};
 ghost use mathlib.Core.List.{[], _∷_};
-ghost use lib.ListN.{getD};
+ghost use lib.Dec.{eqb};
+ghost use lib.ListN.{getD, replicate};
 ghost use Prim.Native.Nat.{min};
-ghost use Rattle.rules.specs.Words.{values, each, changed, _refuses_at_, refusal};
-ghost use Rattle.rules.specs.Names.{NOT-READY, TURN, RESET, max-stations};
-ghost use Rattle.rules.specs.Records.{list-record-at};
-ghost use Rattle.record.specs.View.{as-list-record};
+ghost use Rattle.rules.specs.Words.{if_then_else_, each, changed, _refuses_at_, refusal};
+ghost use Rattle.rules.specs.Names.{TURN, RESET, max-stations};
 ghost use Rattle.rules.specs.State.{position-in, priority-in};
-ghost use Rattle.rules.specs.Ready.{ended-at, waiting-at, ready-at};
 ghost use Rattle.rules.specs.Turn.{yields-to, lowest-of};
-ghost use Rattle.stations.specs.Narrowed.{ready-from};
+ghost use Rattle.rules.specs.Ready.{told, says-ready};
+ghost use Rattle.stations.specs.Places.{readiness-by, readiness-from, ready-from};
+use readiness::Readiness;
 use record::ListRecord;
 use record::Record;
 
-// Whether a station whose next step is e has ended.
-pub fn ended_at(e: ListRecord) -> bool
-    ensures { λ r. ⌜ r ≡ ended-at (as-list-record e) ⌝ }
+// The number told by the readiness of a station that stands at this place of the list, which is read narrowed.
+pub fn told_from(list: &[u8], vars: &[u32; 32], place: u16) -> u8
+    ensures { λ r. ⌜ r ≡ told (readiness-from (now (list .entry)) (now (vars .entry)) place) .number ⌝ }
 {
-    let own = e.own;
-    own.kind == Record::STOP
+    let e = narrow::narrowed(list, place as usize);
+    let told = Readiness::at(vars, e, place).told();
+    told.number
 }
 
-// Whether a station whose next step is e is waiting.
-pub fn waiting_at(vars: &[u32; 32], e: ListRecord) -> bool
-    ensures { λ r. ⌜ r ≡ waiting-at (now (vars .entry)) (as-list-record e) ⌝ }
-{
-    if e.own.kind == Record::AWAIT {
-        return !values::holds(vars, e.own.op, e.own.b as usize, e.own.k);
-    }
-    false
-}
-
-// Whether a station whose next step is e is ready.
-pub fn ready_at(vars: &[u32; 32], e: ListRecord) -> bool
-    ensures { λ r. ⌜ r ≡ ready-at (now (vars .entry)) (as-list-record e) ⌝ }
-{
-    let kind = e.own.kind;
-    match kind {
-        Record::STOP => false,
-        Record::AWAIT => values::holds(vars, e.own.op, e.own.b as usize, e.own.k),
-        _ => true,
-    }
-}
-
-// Whether a station whose next step is the record at this place of the list, which is read narrowed, is ready.
+// Whether a station that stands at this place of the list, which is read narrowed, is ready.
 fn ready_from(list: &[u8], vars: &[u32; 32], place: u16) -> bool
     ensures { λ r. ⌜ r ≡ ready-from (now (list .entry)) (now (vars .entry)) place ⌝ }
 {
     let e = narrow::narrowed(list, place as usize);
-    ready_at(vars, e)
+    Readiness::at(vars, e, place).is_ready()
 }
 
 // Fills in which of the first n stations, at most eight, are ready, and answers whether none of them is ready with a priority below own.
@@ -81,15 +60,16 @@ pub fn judge(
     lowest
 }
 
-// Whether each of the stations 0 to 7 is ready, with these variables and positions.
-pub fn readiness(list: &[u8], vars: &[u32; 32], positions: [u16; 8]) -> [bool; 8]
-    ensures { λ r. ⌜ r ≡ values (λ j. ready-at (now (vars .entry)) (list-record-at (now (list .entry)) (position-in positions j))) max-stations ⌝ }
+// Which of the first n stations, at most eight, are ready, with these variables and positions; a station from n on is not.
+pub fn ready(list: &[u8], vars: &[u32; 32], positions: [u16; 8], n: usize) -> [bool; 8]
+    ensures { λ r. ⌜ r ≡ changed (λ j was. says-ready (readiness-by (now (list .entry)) (now (vars .entry)) (position-in positions j))) (min n max-stations) (replicate max-stations false) ⌝ }
 {
     let mut all = [false; 8];
     let mut j: usize = 0;
-    while j < Record::MAX_STATIONS {
-        let e = ListRecord::at(list, positions[j] as usize);
-        all[j] = ready_at(vars, e);
+    while j < n && j < Record::MAX_STATIONS {
+        let place = positions[j];
+        let e = ListRecord::at(list, place as usize);
+        all[j] = Readiness::at(vars, e, place).is_ready();
         j += 1;
     }
     all
@@ -120,13 +100,13 @@ fn yields(ready: bool, own: i16, other: i16) -> bool
     true
 }
 
-// What refuses the pick of a station of the list, of tests 11 to 13 in their order: it is not ready, it is not lowest, the reset is above
-// b. 0 where nothing does.
-pub fn pick_refusal(ready: bool, lowest: bool, above: bool) -> u8
-    ensures { λ r. ⌜ r ≡ refusal ((not ready refuses NOT-READY at 0) ∷ (not lowest refuses TURN at 0) ∷ (above refuses RESET at 0) ∷ []) ⌝ }
+// What refuses the pick of a station of the list: what its readiness tells, 0 where it is ready; then that it is not lowest, and that the
+// reset is above b. 0 where nothing does.
+pub fn pick_refusal(told: u8, lowest: bool, above: bool) -> u8
+    ensures { λ r. ⌜ r ≡ (if eqb told 0 then refusal ((not lowest refuses TURN at 0) ∷ (above refuses RESET at 0) ∷ []) else told) ⌝ }
 {
-    if !ready {
-        return Record::NOT_READY;
+    if told != 0 {
+        return told;
     }
     if !lowest {
         return Record::TURN;

@@ -1,4 +1,4 @@
-// The cases of the seven calls: each reads the call's fields in their order, into buffers that no field is too long for, makes the call by
+// The cases of the calls: each reads the call's fields in their order, into buffers that no field is too long for, makes the call by
 // the name that C has for it, and writes its line. The length of a field that is always as long, as b, a pick and the most-steps number
 // are, is read over. What a line cannot hold, a state and a lent buffer afterwards, it has as H.
 use crate::fields::buffer;
@@ -29,8 +29,10 @@ const UNDO: u8 = 6;
 
 const LIGHTS: u8 = 7;
 
-// Reads the fields of a call by its number and writes its line. It answers whether to go on: not at a number that none of the seven has, or
-// where the line cannot be written.
+const READINESS: u8 = 9;
+
+// Reads the fields of a call by its number and writes its line. It answers whether to go on: not at a number that none of them has, or where
+// the line cannot be written.
 pub fn answer(file: i32, call: u8) -> bool {
     match call {
         CHECK => check(file),
@@ -40,6 +42,7 @@ pub fn answer(file: i32, call: u8) -> bool {
         RUN => run(file),
         UNDO => undo(file),
         LIGHTS => lights(file),
+        READINESS => readiness(file),
         _ => false,
     }
 }
@@ -152,6 +155,17 @@ fn lights(file: i32) -> bool {
             hash_rows(rows[0], rows[1]),
         ],
     )
+}
+
+// A case of readiness: a list, a state and a station. Its line: the number and the place.
+fn readiness(file: i32) -> bool {
+    let mut list = buffer();
+    let list = field(file, &mut list);
+    let given = state(file);
+    half(file);
+    let station = byte(file);
+    let told = panel::press_readiness(given, list, station);
+    line(READINESS, &[told.number as u64, told.place as u64])
 }
 
 // The line of a start and of a step: the number, the state and the log.

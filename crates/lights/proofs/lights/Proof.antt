@@ -3,7 +3,8 @@
 use mathlib.Core.Path.{sym, _∙_}
 use borrow.Author.Needs.{needs}
 use borrow.Author.Tests.{not-true, not-false}
-use Rattle.lights.proofs.Answers.{refused-list, refused-state, sound-both, gathered-all}
+use Rattle.laws.proofs.Sound.{sound-both}
+use Rattle.lights.proofs.Answers.{refused-list, refused-state, gathered-all}
 use Rattle.lights.proofs.lights.Statement.{statement}
 use Rattle.lights.proofs.lights.Tie as tie
 

@@ -2,7 +2,7 @@
 use mathlib.Core.Bool.{Bool, false}
 use mathlib.Core.List.{List}
 use mathlib.Core.Path.{_≡_, _∙_}
-use mathlib.Core.Logic.{⊎-elim}
+use mathlib.Core.Logic.{inl, inr, ⊎-elim}
 use Prim.Native.Nat.{ℕ, _≤_, _<_, min}
 use native.Mathlib.Omega.{arith}
 use mir.Syntax.{w16}
@@ -20,9 +20,9 @@ use Rattle.rules.specs.Move.{step-vars, step-position}
 use Rattle.rules.specs.Step.{pick-tests}
 use Rattle.laws.specs.Narrow.{narrow}
 use Rattle.charging.specs.Charge.{held-charge}
-use Rattle.stations.specs.Narrowed.{ready-from}
+use Rattle.stations.specs.Places.{ready-from}
 use Rattle.picking.specs.Took.{state-of, took}
-use Rattle.picking.proofs.Judged.{judged, charged}
+use Rattle.picking.proofs.Judged.{told-here, judged, charged}
 use Rattle.picking.proofs.pick.Statement.{statement}
 use Rattle.picking.proofs.pick.Tie as tie
 
@@ -47,28 +47,40 @@ element-copy-out-own c = search needs
 judge-requires : tie.Need-judge-requires
 judge-requires c κs = search needs
 
-array-read-pick-refusal : tie.Need-array-read-pick-refusal
-array-read-pick-refusal c = search needs
+array-read-if3 : tie.Need-array-read-if3
+array-read-if3 c = search needs
+
+mul-told-from : tie.Need-mul-told-from
+mul-told-from c = search needs
+
+element-copy-out-told-from : tie.Need-element-copy-out-told-from
+element-copy-out-told-from c = search needs
+
+told-from-requires : tie.Need-told-from-requires
+told-from-requires c κs = search needs
 
 pick-refusal-requires : tie.Need-pick-refusal-requires
 pick-refusal-requires c κs = search needs
 
--- the number is the refusal of tests 10 to 13
-number : (c : tie.After-pick-refusal) → let a = c .before .before .before .before .before .before .before .before .before .before .args in
+-- the number is the refusal of the pick
+number : (c : tie.After-pick-refusal) → let a = c .before .before .before .before .before .before .before .before .before .before .before .args in
     c .pick-refusal .result
     ≡ refusal (pick-tests (narrow (a .list .now)) (state-of (a .vars .now) (a .positions .now) (a .priorities .now) (a .n) (a .b)) (record { station = a .station; reset = a .reset }))
 number c =
-    let read = c .before .before .before .before .before .before in
+    let read = c .before .before .before .before .before .before .before in
     let station = read .before in
     let a = station .before .before .before .args in
     let own = toZ-ofZ w16 (priority-in (a .priorities .now) (a .station)) (record { sfits = read .own .given }) in
+    let ready = c .before .before .judge .ensures .0 in
     c .pick-refusal .ensures
-    ∙ judged (a .list .now) (a .vars .now) (a .positions .now) (a .priorities .now) (a .n) (a .b) (record { station = a .station; reset = a .reset })
-    (c .before .judge .ensures .0) (here station) (rw own at (c .before .judge .ensures .1))
+    ∙ judged (a .list .now) (a .vars .now) (a .positions .now) (a .priorities .now) (a .n) (a .b) (record { station = a .station; reset = a .reset }) ready
+    (told-here (a .list .now) (a .vars .now) (a .positions .now) (a .priorities .now) (a .n) (a .b) (record { station = a .station; reset = a .reset }) ready (here station)
+    (⊎-elim (λ w. inl (w .0 .taken, w .1)) (λ w. inr (w .0 .left, w .4 ∙ w .3 .ensures)) (c .before .if3 .came)))
+    (rw own at (c .before .before .judge .ensures .1))
 
 returns-2 : tie.Need-returns-2
 unfolding took
-returns-2 c = rw (← number (c .before), ne-eqb _ _ (c .if3 .taken))
+returns-2 c = rw (← number (c .before), ne-eqb _ _ (c .if4 .taken))
 
 charge-requires : tie.Need-charge-requires
 charge-requires c κs = search needs
@@ -89,8 +101,8 @@ element-write-positions : tie.Need-element-write-positions
 element-write-positions c = search needs
 
 -- past all tests, where the charge is by the readiness before the step and the move is of the parts given, that is the pick
-done : {all : List Bool} {charges : List ℤ} {next : ℕ} {later : List ℕ} (t : tie.Else3) →
-    let a = t .before .before .before .before .before .before .before .before .before .before .before .args in
+done : {all : List Bool} {charges : List ℤ} {next : ℕ} {later : List ℕ} (t : tie.Else4) →
+    let a = t .before .before .before .before .before .before .before .before .before .before .before .before .args in
     let e = list-record-at (narrow (a .list .now)) (position-in (a .positions .now) (a .station)) in
     all ≡ changed (λ j was. ready-from (a .list .now) (a .vars .now) (position-in (a .positions .now) j)) (min (a .n) max-stations) (replicate max-stations false) →
     charges ≡ changed (λ j. held-charge (eqb j (a .station)) (getD all j false) (a .reset)) max-stations (a .priorities .now) →
@@ -99,11 +111,11 @@ done : {all : List Bool} {charges : List ℤ} {next : ℕ} {later : List ℕ} (t
     ≡ took (narrow (a .list .now)) (state-of (a .vars .now) (a .positions .now) (a .priorities .now) (a .n) (a .b)) (record { station = a .station; reset = a .reset })
 unfolding took
 done t judged charge step =
-    let station = t .before .before .before .before .before .before .before .before in
+    let station = t .before .before .before .before .before .before .before .before .before in
     let a = station .before .before .before .args in
     rw (
       ← number (t .before),
-      eq-eqb _ _ (t .if3 .left),
+      eq-eqb _ _ (t .if4 .left),
       charge,
       charged (a .list .now) (a .vars .now) (a .positions .now) (a .priorities .now) (a .n) (a .b) (record { station = a .station; reset = a .reset })
           judged (here station),
@@ -122,7 +134,10 @@ pick-spec =
     mul-own
     element-copy-out-own
     judge-requires
-    array-read-pick-refusal
+    array-read-if3
+    mul-told-from
+    element-copy-out-told-from
+    told-from-requires
     pick-refusal-requires
     returns-2
     charge-requires

@@ -17,7 +17,7 @@ use Rattle.rules.specs.State.{position-in, priority-in}
 use Rattle.rules.specs.Turn.{yields-to}
 use Rattle.laws.proofs.Changed.{changed-turn}
 use Rattle.laws.proofs.Places.{each-not, each-more}
-use Rattle.stations.specs.Narrowed.{ready-from}
+use Rattle.stations.specs.Places.{ready-from}
 use Rattle.stations.proofs.Lower.{yields-not-lower}
 use Rattle.stations.proofs.judge.Statement.{statement}
 use Rattle.stations.proofs.judge.Tie as tie

@@ -8,7 +8,6 @@ use native.Mathlib.Omega.{arith}
 use borrow.Author.Needs.{needs}
 use Rattle.rules.specs.Names.{max-stations}
 use Rattle.rules.specs.State.{State}
-use Rattle.rules.specs.Ready.{ended-at, waiting-at, waiting, ended}
 use Rattle.touches.specs.Touched.{touched-by}
 use Rattle.masks.specs.Masks.{state-of, masks-from}
 use Rattle.masks.proofs.Stations.{turn-known, gathered-none, gathered-more, room}
@@ -23,20 +22,20 @@ abbrev μ-loop : tie.MeasureT-loop
 μ-loop list vars priorities n positions given all masks₀ j₀ masks j = j
 
 -- the state of the parts given
-abbrev state-at : tie.After-readiness Inv-loop μ-loop → State
+abbrev state-at : tie.After-ready Inv-loop μ-loop → State
 state-at c =
     let given = c .before .before .args in
     state-of (given .vars .now) (given .t3) (given .priorities) (given .n)
 
-few : (c : tie.After-readiness Inv-loop μ-loop) → state-at c .n ≤ max-stations
+few : (c : tie.After-ready Inv-loop μ-loop) → state-at c .n ≤ max-stations
 few c = min-le-right (c .before .before .args .n) max-stations
 
 -- the station reached has its place
 within : (c : tie.In-loop Inv-loop μ-loop) → c .before .loop .j - 1 < max-stations
 within c = omega (arith, c .loop-test .taken, c .before .loop .inv .0, few (c .before .before .before))
 
-readiness-requires : tie.Need-readiness-requires Inv-loop μ-loop
-readiness-requires c κs = search needs
+ready-requires : tie.Need-ready-requires Inv-loop μ-loop
+ready-requires c κs = search needs
 
 loop-holds : tie.Need-loop-holds Inv-loop μ-loop
 loop-holds c =
@@ -47,11 +46,11 @@ loop-holds c =
 sub-j : tie.Need-sub-j Inv-loop μ-loop
 sub-j c = search needs
 
-mul-at : tie.Need-mul-at Inv-loop μ-loop
-mul-at c = search needs
+mul-place : tie.Need-mul-place Inv-loop μ-loop
+mul-place c = search needs
 
-array-read-at : tie.Need-array-read-at Inv-loop μ-loop
-array-read-at c = within (c .before)
+array-read-place : tie.Need-array-read-place Inv-loop μ-loop
+array-read-place c = within (c .before)
 
 cast-at : tie.Need-cast-at Inv-loop μ-loop
 cast-at c = search needs
@@ -59,27 +58,21 @@ cast-at c = search needs
 at-requires : tie.Need-at-requires Inv-loop μ-loop
 at-requires c κs = search needs
 
+at-requires-2 : tie.Need-at-requires-2 Inv-loop μ-loop
+at-requires-2 c κs = search needs
+
 array-read-if2 : tie.Need-array-read-if2 Inv-loop μ-loop
-array-read-if2 c = within (c .before .before)
+array-read-if2 c = within (c .before .before .before)
 
 lowest-of-requires : tie.Need-lowest-of-requires Inv-loop μ-loop
 lowest-of-requires c κs = search needs
-
-waiting-at-requires : tie.Need-waiting-at-requires Inv-loop μ-loop
-waiting-at-requires c κs = search needs
-
-ended-at-requires : tie.Need-ended-at-requires Inv-loop μ-loop
-ended-at-requires c κs = search needs
-
-array-read-with-station : tie.Need-array-read-with-station Inv-loop μ-loop
-array-read-with-station c = within (c .before .before .before .before .before)
 
 of-requires : tie.Need-of-requires Inv-loop μ-loop
 of-requires c κs = search needs
 
 with-station-requires : tie.Need-with-station-requires Inv-loop μ-loop
 with-station-requires c κs =
-    let turn = c .before .before .before .before .before .before in
+    let turn = c .before .before .before .before .before in
     let at = turn .before in
     let all = at .before .before in
     let back : at .loop .j - 1 + 1 ≡ at .loop .j = omega (arith, turn .loop-test .taken) in
@@ -89,13 +82,11 @@ loop-less : tie.Need-loop-less Inv-loop μ-loop
 loop-less c = search needs
 
 loop-again : tie.Need-loop-again Inv-loop μ-loop
-unfolding waiting ended
 loop-again c =
     let of = c .before in
-    let ended = of .before in
-    let waits = ended .before in
-    let sought = waits .before in
-    let found = sought .before in
+    let sought = of .before in
+    let case = sought .before in
+    let found = case .before in
     let turn = found .before .before in
     let at = turn .before in
     let all = at .before .before in
@@ -106,13 +97,12 @@ loop-again c =
     let back : j + 1 ≡ at .loop .j = omega (arith, turn .loop-test .taken) in
     let here : j < s .n = omega (arith, turn .loop-test .taken, at .loop .inv .0) in
     -- the lowest was sought where it is ready
-    let turns =
-    turn-known list s {turn = sought .if2 .in-turn} (given .n) (all .readiness .ensures) (few all) here refl
+    let in-turn =
+    turn-known list s {turn = sought .if2 .in-turn} (given .n) j refl (all .ready .ensures)
     (⊎-elim (λ w. rw (w .0 .taken, w .2) (w .1 .ensures)) (λ w. rw (w .1, w .0 .left)) (sought .if2 .came)) in
     let so-far : at .loop .masks ≡ masks-from list s (j + 1) = rw back (at .loop .inv .1) in (
       omega (arith, at .loop .inv .0),
-      gathered-more list s (c .with-station .ensures) here so-far (turns .0) (turns .1)
-          (waits .waiting-at .ensures ∙ ap (waiting-at (s .vars)) (found .at .ensures)) (ended .ended-at .ensures ∙ ap ended-at (found .at .ensures))
+      gathered-more list s (c .with-station .ensures) here so-far (rw (found .at .ensures) at (case .at2 .ensures)) in-turn
           (of .of .ensures ∙ ap (touched-by list) (found .at .ensures)),
     )
 
@@ -127,18 +117,16 @@ of-spec =
     (tie.spec
     Inv-loop
     μ-loop
-    readiness-requires
+    ready-requires
     loop-holds
     sub-j
-    mul-at
-    array-read-at
+    mul-place
+    array-read-place
     cast-at
     at-requires
+    at-requires-2
     array-read-if2
     lowest-of-requires
-    waiting-at-requires
-    ended-at-requires
-    array-read-with-station
     of-requires
     with-station-requires
     loop-less

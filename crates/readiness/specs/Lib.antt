@@ -1,0 +1,2 @@
+-- The code's readiness, set beside the rules.
+pub mod View
