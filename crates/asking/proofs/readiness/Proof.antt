@@ -47,7 +47,7 @@ refused-requires-3 : tie.Need-refused-requires-3
 refused-requires-3 c κs = search needs
 
 returns-3 : tie.Need-returns-3
-returns-3 c = c .refused3 .ensures ∙ refused-station _ _ _ (known (c .before .before)) (c .before .if3 .taken)
+returns-3 c = c .refused3 .ensures ∙ refused-station _ _ _ (known (c .before .before)) (omega (arith, c .before .if3 .taken))
 
 mul-place : tie.Need-mul-place
 mul-place c = search needs

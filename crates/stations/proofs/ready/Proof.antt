@@ -22,7 +22,7 @@ Inv-loop list vars n positions all₀ j₀ all j =
     × (all ≡ changed (λ k was. says-ready (readiness-by list vars (position-in positions k))) j (replicate max-stations false))
 
 abbrev μ-loop : tie.MeasureT-loop
-μ-loop list vars n positions all₀ j₀ all j = n - j
+μ-loop list vars n positions all₀ j₀ all j = max-stations - j
 
 loop-holds : tie.Need-loop-holds Inv-loop μ-loop
 unfolding changed
@@ -53,7 +53,7 @@ add-j : tie.Need-add-j Inv-loop μ-loop
 add-j c = search needs
 
 loop-less : tie.Need-loop-less Inv-loop μ-loop
-loop-less c = search needs
+loop-less c = omega (arith, ltb-true)
 
 loop-again : tie.Need-loop-again Inv-loop μ-loop
 loop-again c =
