@@ -67,15 +67,18 @@ impl Masks {
         requires { ⌜ Room self ⌝ }
         ensures { λ r. ⌜ r ≡ with-station self (as-readiness case) «in_turn» touched ⌝ }
     {
+        let ready = case.is_ready();
+        let waiting = case.is_waiting();
+        let ended = case.has_ended();
         let read = touched.reads;
         let written = touched.writes;
         let reads = self.reads;
         let writes = self.writes;
         Masks {
-            ready: with_bit(self.ready, case.is_ready()),
+            ready: with_bit(self.ready, ready),
             in_turn: with_bit(self.in_turn, in_turn),
-            waiting: with_bit(self.waiting, case.is_waiting()),
-            ended: with_bit(self.ended, case.has_ended()),
+            waiting: with_bit(self.waiting, waiting),
+            ended: with_bit(self.ended, ended),
             reads: with_bits(reads, read),
             writes: with_bits(writes, written),
         }

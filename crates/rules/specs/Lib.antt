@@ -17,8 +17,8 @@ pub mod Move
 pub mod Step
 pub mod Run
 pub mod Undo
-pub mod Asked
 pub mod Lights
+pub mod Asked
 pub mod Trace
 pub mod Calls
 pub mod History

@@ -7,20 +7,20 @@ use Rattle.masks.proofs.Masks.with_station.Tie as tie
 is-ready-requires : tie.Need-is-ready-requires
 is-ready-requires c κs = search needs
 
+is-waiting-requires : tie.Need-is-waiting-requires
+is-waiting-requires c κs = search needs
+
+has-ended-requires : tie.Need-has-ended-requires
+has-ended-requires c κs = search needs
+
 with-bit-requires : tie.Need-with-bit-requires
 with-bit-requires c κs = search needs
 
 with-bit-requires-2 : tie.Need-with-bit-requires-2
 with-bit-requires-2 c κs = search needs
 
-is-waiting-requires : tie.Need-is-waiting-requires
-is-waiting-requires c κs = search needs
-
 with-bit-requires-3 : tie.Need-with-bit-requires-3
 with-bit-requires-3 c κs = search needs
-
-has-ended-requires : tie.Need-has-ended-requires
-has-ended-requires c κs = search needs
 
 with-bit-requires-4 : tie.Need-with-bit-requires-4
 with-bit-requires-4 c κs = search needs
@@ -35,17 +35,16 @@ returns : tie.Need-returns
 returns c =
     let with-reads = c .before in
     let with-ended = with-reads .before in
-    let ended = with-ended .before in
-    let with-waiting = ended .before in
-    let waiting = with-waiting .before in
-    let with-turn = waiting .before in
+    let with-waiting = with-ended .before in
+    let with-turn = with-waiting .before in
     let with-ready = with-turn .before in
+    let ended = with-ready .before .before .before .before .before in
     rw (
       with-ready .with-bit .ensures,
-      with-ready .before .is-ready .ensures,
+      ended .before .before .is-ready .ensures,
       with-turn .with-bit2 .ensures,
       with-waiting .with-bit3 .ensures,
-      waiting .is-waiting .ensures,
+      ended .before .is-waiting .ensures,
       with-ended .with-bit4 .ensures,
       ended .has-ended .ensures,
       with-reads .with-bits .ensures,
@@ -57,11 +56,11 @@ with-station-spec =
     tie.close
     (tie.spec
     is-ready-requires
+    is-waiting-requires
+    has-ended-requires
     with-bit-requires
     with-bit-requires-2
-    is-waiting-requires
     with-bit-requires-3
-    has-ended-requires
     with-bit-requires-4
     with-bits-requires
     with-bits-requires-2
