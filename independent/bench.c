@@ -656,6 +656,7 @@ static void make_run_subjects(void)
     subject(READINESS, "list of 7 records", 0, small, NULL, "");
     subject(READINESS, "list of 1,032 records", 0, all, few, "records of the list");
     subject(READINESS, "8 waiting at AWAITs of 100 records", IND_NOT_READY, waiting, short_waiting, "records of a body");
+    subject(LIGHTS, "8 ready at AWAITs of 100 records", 0, bodies, short_bodies, "records of a body");
     subject(LIGHTS, "8 waiting at AWAITs of 100 records", 0, waiting, short_waiting, "records of a body");
 }
 

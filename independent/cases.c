@@ -51,7 +51,8 @@ enum call { CHECK = 1, BUILD, START, STEP, RUN, UNDO, LIGHTS, TRACE,
             READINESS };
 
 enum { STATE_BYTES = 164, MAX_FIELDS = 5, NUMBERS = 17, CALLS = 10,
-       ROUNDS = 75, READINESS_ROUNDS = 70, SMALL_LIST = 192 };
+       ROUNDS = 75, READINESS_ROUNDS = 70, LIGHTS_ROUNDS = 30,
+       SMALL_LIST = 192 };
 
 static const char *const call_name[CALLS] = {
     "", "check", "build", "start", "step", "run", "undo", "lights", "trace",
@@ -2033,6 +2034,386 @@ static void endings(struct writer *w)
 }
 
 /* ------------------------------------------------------------------ */
+/* The lights of a waiting and of a ready AWAIT                       */
+/* ------------------------------------------------------------------ */
+
+/* Each op fails with this number on the left of 5, and holds with the other
+ * of 4 and 5. */
+static const uint32_t fails[4] = { 4, 5, 5, 4 };
+
+/* Adds AWAIT v4 op 5, or v4 op v9. */
+static void add_await(struct sequence *p, uint8_t op)
+{
+    add(p, IND_AWAIT, 0, 4, op, op < 4 ? 5 : 9);
+}
+
+/* Adds a body with branches that touches each variable from 10 to 20 once. */
+static void add_body(struct sequence *p)
+{
+    add(p, IND_IF, 0, 10, 4, 11);
+    add(p, IND_SET, 12, 13, 5, 14);
+    add_bare(p, IND_ELSE);
+    add(p, IND_IF, 0, 15, 2, 3);
+    add(p, IND_SET, 16, 0, 0, 7);
+    add_bare(p, IND_ELSE);
+    add(p, IND_SET, 17, 18, 1, 0);
+    add_bare(p, IND_FI);
+    add_bare(p, IND_FI);
+    add(p, IND_SET, 19, 20, 2, 1);
+}
+
+/* The lights with v9 = 5 and v4 such that the op fails, then such that it
+ * holds. */
+static void fails_and_holds(struct writer *w, const struct press *x,
+                            uint8_t op)
+{
+    struct ind_state s = x->state;
+
+    s.var[9] = 5;
+    s.var[4] = fails[op % 4];
+    case_lights(w, x->list, x->len, &s);
+    s.var[4] = 9 - fails[op % 4];
+    case_lights(w, x->list, x->len, &s);
+}
+
+/* Lights, and a step of the station with reset 0; then the step is taken. */
+static void light_and_step(struct writer *w, struct press *x, uint8_t station)
+{
+    uint8_t pick[2] = { 0, 0 };
+
+    pick[0] = station;
+    case_lights(w, x->list, x->len, &x->state);
+    case_step(w, x->list, x->len, &x->state, x->log, log_length(x, 1),
+              station, 0);
+    if (go(x, pick, 1) != 1)
+        die("a step meant to be taken was refused");
+}
+
+/* Lights, and an undo; then the step is withdrawn. */
+static void light_and_undo(struct writer *w, struct press *x)
+{
+    struct ind_state_answer u = ind_undo(x->list, x->len, x->state, x->log,
+                                         sizeof x->log);
+
+    case_lights(w, x->list, x->len, &x->state);
+    case_undo(w, x->list, x->len, &x->state, x->log, log_length(x, 0));
+    if (u.number != IND_FINE)
+        die("an undo meant to be taken was refused");
+    x->state = u.state;
+}
+
+/* Station 0 releases station 1, by each op: waiting, ready, ended, and back by
+ * undos; the Dryer first. */
+static void released(struct writer *w)
+{
+    static struct sequence p;
+    static struct press x;
+    static const uint8_t zeros[2];
+
+    for (int i = -1; i < 8; i++) {
+        uint8_t op = (uint8_t)(i < 0 ? 0 : i);
+
+        if (i < 0) {
+            dryer(&p);
+        } else {
+            p.len = 0;
+            add(&p, IND_SET, 4, 0, 0, fails[op % 4]);
+            add(&p, IND_SET, 9, 0, 0, 5);
+            add_bare(&p, IND_STATION);
+            add(&p, IND_SET, 4, 0, 0, 9 - fails[op % 4]);
+            add_bare(&p, IND_STATION);
+            add_await(&p, op);
+            add_body(&p);
+            add_bare(&p, IND_END);
+        }
+        load(&x, &p);
+        set_going(&x, 0, zeros);
+        light_and_step(w, &x, 0);
+        light_and_step(w, &x, 1);
+        light_and_undo(w, &x);
+        light_and_undo(w, &x);
+        case_lights(w, x.list, x.len, &x.state);
+    }
+}
+
+/* One station at an AWAIT that waits and is ready by turns: what its condition
+ * and its body can be. */
+static void conditions_and_bodies(struct writer *w)
+{
+    static struct sequence p;
+    static struct press x;
+    static const uint8_t zeros[8];
+
+    for (uint8_t op = 0; op < 8; op++) {
+        /* a body that touches nothing */
+        p.len = 0;
+        add_bare(&p, IND_STATION);
+        add_await(&p, op);
+        add_bare(&p, IND_SKIP);
+        add_bare(&p, IND_END);
+        load(&x, &p);
+        set_going(&x, 0, zeros);
+        fails_and_holds(w, &x, op);
+
+        /* one that writes the condition's variables, and reads them in a
+         * branch not taken */
+        p.len = 0;
+        add_bare(&p, IND_STATION);
+        add_await(&p, op);
+        add(&p, IND_SET, 9, 4, 1, 0);
+        add(&p, IND_IF, 0, 2, 0, 9);
+        add(&p, IND_SET, 3, 9, 4, 4);
+        add_bare(&p, IND_ELSE);
+        add(&p, IND_SET, 4, 2, 2, 1);
+        add_bare(&p, IND_FI);
+        add_bare(&p, IND_END);
+        load(&x, &p);
+        set_going(&x, 0, zeros);
+        fails_and_holds(w, &x, op);
+
+        /* the same variable twice, variables 0 and 31; against a constant
+         * that could be a variable's number, and two that could not */
+        for (int i = 0; i < 3; i++) {
+            static const uint8_t left[3] = { 4, 0, 31 };
+            static const uint32_t right[3] = { 4, 31, 0 };
+            static const uint32_t number[3] = { 31, 32, UINT32_MAX };
+
+            p.len = 0;
+            add_bare(&p, IND_STATION);
+            add(&p, IND_AWAIT, 0, left[i], op, op < 4 ? number[i] : right[i]);
+            add(&p, IND_SET, 7, 8, 4, 7);
+            add_bare(&p, IND_END);
+            load(&x, &p);
+            set_going(&x, 0, zeros);
+            case_lights(w, x.list, x.len, &x.state);
+            x.state.var[left[i]] = op < 4 ? number[i] : 1;
+            case_lights(w, x.list, x.len, &x.state);
+        }
+
+        /* IF by the op in the body; IF and WHILE in its place never wait */
+        for (int i = 0; i < 3; i++) {
+            p.len = 0;
+            add_bare(&p, IND_STATION);
+            if (i == 0)
+                add_await(&p, 4);
+            add(&p, i < 2 ? IND_IF : IND_WHILE, 0, 4, op, op < 4 ? 5 : 9);
+            add(&p, IND_SET, 5, 6, 2, 1);
+            if (i < 2) {
+                add_bare(&p, IND_ELSE);
+                add(&p, IND_SET, 7, 8, 3, 1);
+            }
+            add_bare(&p, i < 2 ? IND_FI : IND_OD);
+            if (i == 0)
+                add_bare(&p, IND_END);
+            load(&x, &p);
+            set_going(&x, 0, zeros);
+            fails_and_holds(w, &x, i == 0 ? 4 : op);
+        }
+    }
+
+    /* SET by each op in the body */
+    for (uint8_t op = 0; op < 6; op++) {
+        p.len = 0;
+        add_bare(&p, IND_STATION);
+        add_await(&p, 6);
+        add(&p, IND_SET, 1, op == 0 ? 0 : 2, op, op == 1 ? 0 : 3);
+        add_bare(&p, IND_END);
+        load(&x, &p);
+        set_going(&x, 0, zeros);
+        fails_and_holds(w, &x, 6);
+    }
+
+    /* fifteen IFs in a body, by their first branches and by their second */
+    for (int second = 0; second < 2; second++) {
+        p.len = 0;
+        add_bare(&p, IND_STATION);
+        add_await(&p, 5);
+        for (uint8_t i = 10; i < 25; i++) {
+            add(&p, IND_IF, 0, i, 0, 0);
+            if (second) {
+                add_bare(&p, IND_SKIP);
+                add_bare(&p, IND_ELSE);
+            }
+        }
+        add(&p, IND_SET, 30, 31, 1, 0);
+        for (int i = 10; i < 25; i++) {
+            if (!second) {
+                add_bare(&p, IND_ELSE);
+                add_bare(&p, IND_SKIP);
+            }
+            add_bare(&p, IND_FI);
+        }
+        add_bare(&p, IND_END);
+        load(&x, &p);
+        set_going(&x, 0, zeros);
+        fails_and_holds(w, &x, 5);
+    }
+}
+
+/* Stations beside each other with the same body: one waits, one is ready, one
+ * has ended. */
+static void beside(struct writer *w)
+{
+    static struct sequence p;
+    static struct press x;
+    static const uint8_t zeros[8];
+    struct ind_state s;
+
+    /* two stations with one condition and its contrary */
+    for (uint8_t op = 0; op < 8; op = (uint8_t)(op + 2)) {
+        p.len = 0;
+        for (uint8_t i = 0; i < 2; i++) {
+            add_bare(&p, IND_STATION);
+            add_await(&p, (uint8_t)(op + i));
+            add_body(&p);
+            add_bare(&p, IND_END);
+        }
+        load(&x, &p);
+        set_going(&x, 0, zeros);
+        fails_and_holds(w, &x, op);
+    }
+
+    /* one to eight stations, the last one waits and then is ready; the first
+     * is ready too, then has ended */
+    for (int n = 1; n <= 8; n++) {
+        stations(&p, n - 1);
+        add_bare(&p, IND_STATION);
+        add_await(&p, 7);
+        add(&p, IND_SET, 1, 2, 4, 3);
+        add_bare(&p, IND_END);
+        load(&x, &p);
+        set_going(&x, 0, zeros);
+        fails_and_holds(w, &x, 7);
+        if (n > 1) {
+            x.state.pos[0]++;
+            fails_and_holds(w, &x, 7);
+        }
+    }
+
+    /* eight stations: all wait, each alone waits, each alone is ready, none
+     * waits, by turns; some have ended; whose turn it is */
+    p.len = 0;
+    for (uint8_t i = 0; i < 8; i++) {
+        add_bare(&p, IND_STATION);
+        add(&p, IND_AWAIT, 0, i, 4, 31);
+        add(&p, IND_SET, 30, (uint8_t)(16 + i), 4, 29);
+        add_bare(&p, IND_END);
+    }
+    load(&x, &p);
+    set_going(&x, 3, zeros);
+    x.state.var[31] = 1;
+    for (int i = 0; i < 20; i++) {
+        static const uint8_t mask[4] = { 0, 255, 0x55, 0xAA };
+        unsigned ready = i < 8 ? 1u << i : 255u - (1u << i % 8);
+
+        if (i >= 16)
+            ready = mask[i - 16];
+        for (int j = 0; j < 8; j++)
+            x.state.var[j] = ready >> j & 1;
+        case_lights(w, x.list, x.len, &x.state);
+    }
+    s = x.state;
+    s.pos[0] += 2;
+    s.pos[5] += 2;
+    case_lights(w, x.list, x.len, &s);
+    for (int i = 0; i < 8; i++)
+        s.pri[i] = (int16_t)(3 - i);
+    case_lights(w, x.list, x.len, &s);
+    for (int i = 0; i < 8; i++)
+        s.pri[i] = (int16_t)(i - 4);
+    case_lights(w, x.list, x.len, &s);
+    s.m = 4096;
+    case_lights(w, x.list, x.len, &s);
+}
+
+/* One station, no STOP: an AWAIT that leads back to itself, another whose body
+ * ends in the first one's, and a record inside that nobody reaches. */
+static const uint8_t waiting_list[] = {
+    16, 0, 0, 0, 0, 0, 0, 0, 0, 0, 1, 0, 0, 0, 0, 0,
+    9, 0, 4, 5, 9, 0, 0, 0, 0, 0, 2, 0, 1, 0, 0, 0,
+    4, 0, 3, 1, 0, 0, 0, 0, 0, 1, 3, 0, 6, 0, 0, 0,
+    3, 4, 5, 3, 1, 0, 0, 0, 0, 1, 0, 0, 0, 0, 0, 0,
+    9, 0, 4, 2, 5, 0, 0, 0, 0, 0, 5, 0, 1, 0, 0, 0,
+    3, 8, 9, 4, 10, 0, 0, 0, 0, 1, 6, 0, 0, 0, 0, 0,
+    3, 11, 12, 2, 1, 0, 0, 0, 0, 1, 0, 0, 0, 0, 0, 0,
+    3, 13, 14, 2, 1, 0, 0, 0, 0, 1, 0, 0, 0, 0, 0, 0
+};
+
+/* Lists that someone else wrote, and refusals where a station waits. */
+static void foreign_waiting(struct writer *w)
+{
+    static struct press x;
+    static struct sequence p;
+    static const uint8_t zeros[8];
+    struct ind_state s;
+
+    memcpy(x.list, waiting_list, sizeof waiting_list);
+    x.len = sizeof waiting_list;
+    x.n = 1;
+    set_going(&x, 0, zeros);
+    fails_and_holds(w, &x, 5);
+    x.state.var[4] = 1;                   /* v4 differs from v9 */
+    light_and_step(w, &x, 0);
+    light_and_undo(w, &x);                /* to a start: v4 is 0 */
+    case_lights(w, x.list, x.len, &x.state);
+    x.state.pos[0] = 4;
+    fails_and_holds(w, &x, 2);
+
+    /* the first hand-made list's AWAITs: each holds, then fails */
+    load_hand(&x, 0);
+    set_going(&x, 1, zeros);
+    s = x.state;
+    for (uint16_t place = 1; place <= 3; place = (uint16_t)(place + 2)) {
+        for (uint32_t i = 0; i < 2; i++) {
+            s.pos[0] = place;
+            s.var[0] = i;
+            s.var[3] = 8 + i;
+            case_lights(w, x.list, x.len, &s);
+        }
+    }
+
+    /* 7 and 8 where station 1 waits */
+    dryer(&p);
+    load(&x, &p);
+    set_going(&x, 0, zeros);
+    case_lights(w, x.list, x.len - 8, &x.state);
+    case_lights(w, x.list, x.len - 16, &x.state);
+    x.list[IND_ITEM * 4 + 10] = 6;        /* the AWAIT's t1 */
+    case_lights(w, x.list, x.len, &x.state);
+    x.list[IND_ITEM * 4 + 10] = 5;
+    x.list[IND_ITEM * 5 + 1] = 32;        /* the body's variable */
+    case_lights(w, x.list, x.len, &x.state);
+    x.list[IND_ITEM * 5 + 1] = 0;
+    for (int i = 0; i < 7; i++) {
+        s = x.state;
+        switch (i) {
+        case 0:
+            s.n = 1;
+            break;
+        case 1:
+            s.m = 4097;
+            break;
+        case 2:
+            s.pos[1] = 5;                 /* inside */
+            break;
+        case 3:
+            s.pos[0] = 4;                 /* the other's AWAIT */
+            break;
+        case 4:
+            s.pri[1] = 1;
+            break;
+        case 5:
+            s.pri[1] = -2;
+            break;
+        default:
+            s.pri[2] = 1;
+            break;
+        }
+        case_lights(w, x.list, x.len, &s);
+    }
+}
+
+/* ------------------------------------------------------------------ */
 /* Random cases                                                       */
 /* ------------------------------------------------------------------ */
 
@@ -2496,6 +2877,52 @@ static void random_readiness(struct writer *w, struct rng *g, size_t most)
     }
 }
 
+/* Whether a station stands at an AWAIT. */
+static int at_await(const struct press *x, const struct ind_state *s)
+{
+    for (size_t i = 0; i < x->n; i++)
+        if (s->pos[i] < x->len / IND_ITEM
+            && x->list[IND_ITEM * (size_t)s->pos[i]] == IND_AWAIT)
+            return 1;
+    return 0;
+}
+
+/* One round of lights, mostly with a station at an AWAIT: in a run, behind an
+ * undo, and in a state that no call made; of lists of at most `most` bytes. */
+static void random_lights(struct writer *w, struct rng *g, size_t most)
+{
+    static struct press x;
+
+    for (int what = 0; what < 3; what++) {
+        int again;
+
+        do {
+            uint8_t resets[IND_STATIONS], picks[40];
+            struct ind_state s;
+            size_t count;
+
+            do
+                random_press(g, &x);
+            while (x.len > most || !has_await(&x));
+            s = random_state(g, &x);
+            for (size_t i = 0; i < IND_STATIONS; i++)
+                resets[i] = (uint8_t)below(g, s.b + 1u);
+            set_going(&x, s.b, resets);
+            count = below(g, 20);
+            count = random_picks(g, &x, picks, count, 98);
+            go(&x, picks, count);
+            if (what == 2)
+                x.state = s;
+            again = !at_await(&x, &x.state) && chance(g, 95);
+            if (what == 1 && x.state.m == 0)
+                again = 1;
+        } while (again);
+        if (what == 1)
+            light_and_undo(w, &x);
+        case_lights(w, x.list, x.len, &x.state);
+    }
+}
+
 static void random_traces(struct writer *w, struct rng *g, struct press *x)
 {
     static struct sequence p;
@@ -2610,10 +3037,18 @@ static struct rng readiness_rng(uint64_t seed)
     return g;
 }
 
+/* The generator of the lights cases at the end, likewise. */
+static struct rng lights_rng(uint64_t seed)
+{
+    struct rng g = { seed ^ UINT64_C(0x5EED0F0007001100) };
+
+    return g;
+}
+
 static int write_stream(uint64_t seed)
 {
     static struct writer w;
-    struct rng g = { seed }, h = readiness_rng(seed);
+    struct rng g = { seed }, h = readiness_rng(seed), l = lights_rng(seed);
 
     w.out = stdout;
     bench_check(&w);
@@ -2630,6 +3065,12 @@ static int write_stream(uint64_t seed)
     endings(&w);
     for (int i = 0; i < READINESS_ROUNDS; i++)
         random_readiness(&w, &h, SMALL_LIST);
+    released(&w);
+    conditions_and_bodies(&w);
+    beside(&w);
+    foreign_waiting(&w);
+    for (int i = 0; i < LIGHTS_ROUNDS; i++)
+        random_lights(&w, &l, SMALL_LIST);
     if (fflush(stdout) != 0)
         die("cannot write");
     return report(&w) != 0;
@@ -2638,12 +3079,13 @@ static int write_stream(uint64_t seed)
 static int write_random(uint64_t seed, unsigned long rounds)
 {
     static struct writer w;
-    struct rng g = { seed }, h = readiness_rng(seed);
+    struct rng g = { seed }, h = readiness_rng(seed), l = lights_rng(seed);
 
     w.out = stdout;
     while (rounds-- > 0) {
         random_round(&w, &g);
         random_readiness(&w, &h, SIZE_MAX);
+        random_lights(&w, &l, SIZE_MAX);
     }
     if (fflush(stdout) != 0)
         die("cannot write");

@@ -1056,7 +1056,9 @@ static void touch_body(struct ind_lights_answer *lights,
 
 /* "LIGHTS answers four station masks, bit i for station i ..., and two rows
  * of 32 masks: which stations' next steps read, and which write, each
- * variable."  Refused (7, 8), all zeros. */
+ * variable."  A ready AWAIT has its condition and all of its body lit; "a
+ * waiting AWAIT reads only the variables of its condition and writes none".
+ * Refused (7, 8), all zeros. */
 struct ind_lights_answer ind_lights(const uint8_t *bytes, size_t len,
                                     struct ind_state state)
 {
@@ -1084,7 +1086,7 @@ struct ind_lights_answer ind_lights(const uint8_t *bytes, size_t len,
             answer.ended |= bit;
         if (told == IND_NOT_READY)
             answer.waiting |= bit;
-        if (kind_of(r) == IND_AWAIT)
+        if (kind_of(r) == IND_AWAIT && told == IND_FINE)
             touch_body(&answer, &list, t1_of(r), bit);
         touch(&answer, r, bit);
     }

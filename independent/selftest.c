@@ -59,6 +59,19 @@ static int zero_state(const struct ind_state *x)
     return same_state(x, &zero);
 }
 
+/* Whether the lights were given and the station is lit on just these
+ * variables, bit v for variable v. */
+static int lit(const struct ind_lights_answer *l, size_t station,
+               uint32_t reads, uint32_t writes)
+{
+    uint32_t row[2] = { 0, 0 };
+
+    for (int i = 0; i < 2; i++)
+        for (int v = 0; v < IND_VARS; v++)
+            row[i] |= (uint32_t)(l->rows[i][v] >> station & 1) << v;
+    return l->number == IND_FINE && row[0] == reads && row[1] == writes;
+}
+
 static void nested_whiles(struct sequence *p, int deep)
 {
     p->len = 0;
@@ -332,22 +345,34 @@ static void test_dryer(void)
     s = ind_step(list, 112, first.state, log, sizeof log, 1, 0);
     CHECK(s.number == IND_NOT_READY && same_state(&s.state, &first.state));
 
-    /* "At the start variable 0 has read mask 2 and write mask 3." */
+    /* "In "Dryer" the start then has write mask 1 for variable 0, and read
+     * mask 2 as before." */
     l = ind_lights(list, 112, first.state);
-    CHECK(l.number == IND_FINE && l.rows[0][0] == 2 && l.rows[1][0] == 3);
+    CHECK(l.number == IND_FINE && l.rows[0][0] == 2 && l.rows[1][0] == 1);
+    CHECK(lit(&l, 0, 0, 1) && lit(&l, 1, 1, 0));
     CHECK(l.ready == 1 && l.in_turn == 1 && l.waiting == 2 && l.ended == 0);
 
     /* P12 picks 0, 1, then two undos give back the start state. */
     s = ind_step(list, 112, first.state, log, sizeof log, 0, 0);
     CHECK(s.number == IND_FINE && s.state.var[0] == 1);
+    l = ind_lights(list, 112, s.state);  /* station 1 is ready, 0 has ended */
+    CHECK(l.number == IND_FINE && l.rows[0][0] == 2 && l.rows[1][0] == 2);
+    CHECK(lit(&l, 0, 0, 0) && lit(&l, 1, 1, 1));
+    CHECK(l.ready == 2 && l.in_turn == 2 && l.waiting == 0 && l.ended == 1);
     t = ind_step(list, 112, s.state, log, sizeof log, 1, 0);
     CHECK(t.number == IND_FINE && t.state.var[0] == 2 && t.state.m == 2);
     l = ind_lights(list, 112, t.state);
     CHECK(l.ready == 0 && l.in_turn == 0 && l.waiting == 0 && l.ended == 3);
+    CHECK(lit(&l, 0, 0, 0) && lit(&l, 1, 0, 0));
     t = ind_undo(list, 112, t.state, log, sizeof log);
     CHECK(t.number == IND_FINE && same_state(&t.state, &s.state));
+    l = ind_lights(list, 112, t.state);
+    CHECK(l.number == IND_FINE && l.rows[0][0] == 2 && l.rows[1][0] == 2);
     t = ind_undo(list, 112, t.state, log, sizeof log);
     CHECK(t.number == IND_FINE && same_state(&t.state, &first.state));
+    l = ind_lights(list, 112, t.state);  /* station 1 waits again */
+    CHECK(l.number == IND_FINE && l.rows[0][0] == 2 && l.rows[1][0] == 1);
+    CHECK(l.ready == 1 && l.in_turn == 1 && l.waiting == 2 && l.ended == 0);
     t = ind_undo(list, 112, t.state, log, sizeof log);
     CHECK(t.number == IND_EMPTY && same_state(&t.state, &first.state));
 
@@ -712,6 +737,280 @@ static void test_foreign_stops(void)
     CHECK(told(list, sizeof list, s.state, 1, IND_FINE, 0));
 }
 
+/* ------------------------------------------------------------------ */
+/* The lights of a waiting and of a ready AWAIT                       */
+/* ------------------------------------------------------------------ */
+
+/* The bits of up to three variables. */
+static uint32_t bits(unsigned u, unsigned v, unsigned x)
+{
+    return UINT32_C(1) << u | UINT32_C(1) << v | UINT32_C(1) << x;
+}
+
+/* Adds a body that touches each variable from 10 to 20 once: it reads 10, 11,
+ * 13, 14, 15, 18 and 20, and writes 12, 16, 17 and 19. */
+static void add_body(struct sequence *p)
+{
+    add(p, IND_IF, 0, 10, 4, 11);      /* IF v10 = v11 */
+    add(p, IND_SET, 12, 13, 5, 14);    /* SET v12 := v13-v14 */
+    add_bare(p, IND_ELSE);
+    add(p, IND_IF, 0, 15, 2, 3);       /* IF v15 < 3 */
+    add(p, IND_SET, 16, 0, 0, 7);      /* SET v16 := 7 */
+    add_bare(p, IND_ELSE);
+    add(p, IND_SET, 17, 18, 1, 0);     /* SET v17 := v18 */
+    add_bare(p, IND_FI);
+    add_bare(p, IND_FI);
+    add(p, IND_SET, 19, 20, 2, 1);     /* SET v19 := v20+1 */
+}
+
+#define BODY_READS (bits(10, 11, 13) | bits(14, 15, 18) | bits(20, 20, 20))
+#define BODY_WRITES (bits(12, 16, 17) | bits(19, 19, 19))
+
+/* "b equals, differs from, is below, is at least": each op fails with this
+ * number on the left of 5, and holds with the other of 4 and 5. */
+static const uint32_t fails[4] = { 4, 5, 5, 4 };
+
+/* Station 0 releases station 1; the undo of that makes it wait again. */
+static void test_waiting_lights(void)
+{
+    static struct sequence p;
+    uint8_t list[IND_ITEM * 32], log[16];
+    static const uint8_t resets[2] = { 0, 0 };
+    struct ind_state_answer first, s, t;
+    struct ind_lights_answer l;
+    size_t len;
+
+    for (uint8_t op = 0; op < 8; op++) {
+        uint32_t cond = op < 4 ? bits(4, 4, 4) : bits(4, 9, 9);
+
+        p.len = 0;
+        add(&p, IND_SET, 4, 0, 0, fails[op % 4]);
+        add(&p, IND_SET, 9, 0, 0, 5);
+        add_bare(&p, IND_STATION);
+        add(&p, IND_SET, 4, 0, 0, 9 - fails[op % 4]);
+        add_bare(&p, IND_STATION);
+        add(&p, IND_AWAIT, 0, 4, op, op < 4 ? 5 : 9);
+        add_body(&p);
+        add_bare(&p, IND_END);
+        len = ind_build(p.bytes, p.len, list, sizeof list).count * 16u;
+        first = ind_start(list, len, 0, resets, 2, log, sizeof log);
+
+        /* waiting: the condition's variables, and nothing written */
+        l = ind_lights(list, len, first.state);
+        CHECK(l.ready == 1 && l.in_turn == 1 && l.waiting == 2);
+        CHECK(lit(&l, 0, 0, bits(4, 4, 4)) && lit(&l, 1, cond, 0));
+        /* released: the body whole, all branches */
+        s = ind_step(list, len, first.state, log, sizeof log, 0, 0);
+        l = ind_lights(list, len, s.state);
+        CHECK(l.ready == 2 && l.in_turn == 2 && l.waiting == 0);
+        CHECK(lit(&l, 0, 0, 0));
+        CHECK(lit(&l, 1, cond | BODY_READS, BODY_WRITES));
+        /* done */
+        t = ind_step(list, len, s.state, log, sizeof log, 1, 0);
+        l = ind_lights(list, len, t.state);
+        CHECK(l.ended == 3 && lit(&l, 0, 0, 0) && lit(&l, 1, 0, 0));
+        /* withdrawn: ready, then waiting */
+        t = ind_undo(list, len, t.state, log, sizeof log);
+        l = ind_lights(list, len, t.state);
+        CHECK(l.ready == 2 && l.waiting == 0);
+        CHECK(lit(&l, 1, cond | BODY_READS, BODY_WRITES));
+        t = ind_undo(list, len, t.state, log, sizeof log);
+        l = ind_lights(list, len, t.state);
+        CHECK(l.ready == 1 && l.waiting == 2);
+        CHECK(lit(&l, 0, 0, bits(4, 4, 4)) && lit(&l, 1, cond, 0));
+
+        /* the same variable twice: ops 4 and 7 hold, 5 and 6 fail */
+        if (op >= 4) {
+            int holds = op == 4 || op == 7;
+
+            p.len = 0;
+            add_bare(&p, IND_STATION);
+            add(&p, IND_AWAIT, 0, 4, op, 4);
+            add_body(&p);
+            add_bare(&p, IND_END);
+            len = ind_build(p.bytes, p.len, list, sizeof list).count * 16u;
+            s = ind_start(list, len, 0, resets, 1, log, sizeof log);
+            l = ind_lights(list, len, s.state);
+            CHECK(l.ready == holds && l.waiting == !holds);
+            CHECK(lit(&l, 0, bits(4, 4, 4) | (holds ? BODY_READS : 0),
+                      holds ? BODY_WRITES : 0));
+        }
+
+        /* a body that writes the condition's variables, and reads them in a
+         * branch not taken */
+        p.len = 0;
+        add_bare(&p, IND_STATION);
+        add(&p, IND_AWAIT, 0, 4, op, op < 4 ? 5 : 9);
+        add(&p, IND_SET, 9, 4, 1, 0);
+        add(&p, IND_IF, 0, 2, 0, 9);
+        add(&p, IND_SET, 3, 9, 4, 4);
+        add_bare(&p, IND_ELSE);
+        add(&p, IND_SET, 4, 2, 2, 1);
+        add_bare(&p, IND_FI);
+        add_bare(&p, IND_END);
+        len = ind_build(p.bytes, p.len, list, sizeof list).count * 16u;
+        s = ind_start(list, len, 0, resets, 1, log, sizeof log);
+        s.state.var[9] = 5;
+        s.state.var[4] = fails[op % 4];
+        l = ind_lights(list, len, s.state);
+        CHECK(l.waiting == 1 && lit(&l, 0, cond, 0));
+        s.state.var[4] = 9 - fails[op % 4];
+        l = ind_lights(list, len, s.state);
+        CHECK(l.ready == 1 && lit(&l, 0, bits(2, 4, 9), bits(3, 4, 9)));
+    }
+}
+
+/* Stations at the same kind of AWAIT with the same body, each waiting or ready
+ * by itself. */
+static void test_waiting_beside(void)
+{
+    static struct sequence p;
+    static uint8_t list[IND_ITEM * 96];
+    uint8_t log[16];
+    static const uint8_t resets[8] = { 0 };
+    struct ind_state_answer s;
+    struct ind_lights_answer l;
+    size_t len;
+
+    /* eight stations, each with a variable of its own: all 256 states */
+    p.len = 0;
+    for (uint8_t i = 0; i < 8; i++) {
+        add_bare(&p, IND_STATION);
+        add(&p, IND_AWAIT, 0, i, 7, 31);       /* AWAIT vi is at least v31 */
+        add_body(&p);
+        add_bare(&p, IND_END);
+    }
+    len = ind_build(p.bytes, p.len, list, sizeof list).count * 16u;
+    s = ind_start(list, len, 0, resets, 8, log, sizeof log);
+    s.state.var[31] = 1;
+    for (unsigned mask = 0; mask < 256; mask++) {
+        for (unsigned i = 0; i < 8; i++)
+            s.state.var[i] = mask >> i & 1;
+        l = ind_lights(list, len, s.state);
+        CHECK(l.ready == mask && l.in_turn == mask && l.waiting == 255 - mask);
+        CHECK(l.rows[0][31] == 255 && l.rows[1][31] == 0);
+        CHECK(l.rows[0][20] == mask && l.rows[1][20] == 0);
+        CHECK(l.rows[0][19] == 0 && l.rows[1][19] == mask);
+        for (unsigned i = 0; i < 8; i++) {
+            if ((mask >> i & 1) != 0)
+                CHECK(lit(&l, i, bits(i, i, 31) | BODY_READS, BODY_WRITES));
+            else
+                CHECK(lit(&l, i, bits(i, i, 31), 0));
+        }
+    }
+    /* an ended station has no light; whose turn it is does not matter */
+    s.state.b = 1;
+    for (unsigned i = 0; i < 8; i++) {
+        s.state.var[i] = i % 2;
+        s.state.pri[i] = (int16_t)(i == 1 ? 1 : 0);
+    }
+    s.state.pos[3] = (uint16_t)(s.state.pos[4] - 1);
+    l = ind_lights(list, len, s.state);
+    CHECK(l.ready == 0xA2 && l.in_turn == 0xA0);
+    CHECK(l.waiting == 0x55 && l.ended == 0x08);
+    CHECK(lit(&l, 0, bits(0, 0, 31), 0) && lit(&l, 3, 0, 0));
+    CHECK(lit(&l, 1, bits(1, 1, 31) | BODY_READS, BODY_WRITES));
+
+    /* two stations with one condition and its contrary */
+    p.len = 0;
+    for (uint8_t i = 0; i < 2; i++) {
+        add_bare(&p, IND_STATION);
+        add(&p, IND_AWAIT, 0, 0, i == 0 ? 4 : 5, 1);
+        add_body(&p);
+        add_bare(&p, IND_END);
+    }
+    len = ind_build(p.bytes, p.len, list, sizeof list).count * 16u;
+    s = ind_start(list, len, 0, resets, 2, log, sizeof log);
+    for (uint8_t ready = 0; ready < 2; ready++) {
+        size_t waits = 1u - ready;
+
+        s.state.var[0] = ready;
+        l = ind_lights(list, len, s.state);
+        CHECK(l.ready == 1 << ready && l.waiting == 1 << waits);
+        CHECK(lit(&l, ready, bits(0, 1, 1) | BODY_READS, BODY_WRITES));
+        CHECK(lit(&l, waits, bits(0, 1, 1), 0));
+    }
+
+    /* IF and WHILE never wait: they are lit alike where they hold and where
+     * they fail, and what they lead to is not */
+    for (uint8_t op = 0; op < 8; op++) {
+        for (int i = 0; i < 2; i++) {
+            p.len = 0;
+            add_bare(&p, IND_STATION);
+            add(&p, i == 0 ? IND_IF : IND_WHILE, 0, 4, op, op < 4 ? 5 : 9);
+            add_body(&p);
+            if (i == 0) {
+                add_bare(&p, IND_ELSE);
+                add_bare(&p, IND_SKIP);
+            }
+            add_bare(&p, i == 0 ? IND_FI : IND_OD);
+            len = ind_build(p.bytes, p.len, list, sizeof list).count * 16u;
+            s = ind_start(list, len, 0, resets, 1, log, sizeof log);
+            s.state.var[9] = 5;
+            for (uint32_t left = 4; left <= 5; left++) {
+                s.state.var[4] = left;
+                l = ind_lights(list, len, s.state);
+                CHECK(l.ready == 1 && l.waiting == 0);
+                CHECK(lit(&l, 0, op < 4 ? bits(4, 4, 4) : bits(4, 9, 9), 0));
+            }
+        }
+    }
+}
+
+/* A list that someone else wrote: no STOP, and two bodies that share a
+ * record. */
+static void test_foreign_waiting(void)
+{
+    /* AWAITs at 1 and at 4: the first body is 2, 3 and 6, the second 5 and 6;
+     * nobody reaches 7 */
+    static const uint8_t list[] = {
+        16, 0, 0, 0, 0, 0, 0, 0, 0, 0, 1, 0, 0, 0, 0, 0,
+        9, 0, 1, 4, 2, 0, 0, 0, 0, 0, 2, 0, 4, 0, 0, 0,
+        4, 0, 3, 1, 0, 0, 0, 0, 0, 1, 3, 0, 6, 0, 0, 0,
+        3, 4, 5, 3, 1, 0, 0, 0, 0, 1, 0, 0, 0, 0, 0, 0,
+        9, 0, 6, 6, 7, 0, 0, 0, 0, 0, 5, 0, 1, 0, 0, 0,
+        3, 8, 9, 4, 10, 0, 0, 0, 0, 1, 6, 0, 0, 0, 0, 0,
+        3, 11, 12, 2, 1, 0, 0, 0, 0, 1, 0, 0, 0, 0, 0, 0,
+        3, 13, 14, 2, 1, 0, 0, 0, 0, 1, 0, 0, 0, 0, 0, 0
+    };
+    static const uint8_t resets[1] = { 0 };
+    uint8_t log[16];
+    struct ind_state_answer s, t;
+    struct ind_lights_answer l;
+
+    s = ind_start(list, sizeof list, 0, resets, 1, log, sizeof log);
+    CHECK(s.number == IND_FINE);
+    l = ind_lights(list, sizeof list, s.state);        /* v1 = v2 */
+    CHECK(l.ready == 1);
+    CHECK(lit(&l, 0, bits(1, 2, 3) | bits(5, 5, 12), bits(4, 11, 11)));
+    t = ind_step(list, sizeof list, s.state, log, sizeof log, 0, 0);
+    CHECK(t.number == IND_FINE && t.state.pos[0] == 4);
+    l = ind_lights(list, sizeof list, t.state);        /* v6 is not below v7 */
+    CHECK(l.waiting == 1 && lit(&l, 0, bits(6, 7, 7), 0));
+    t.state.var[7] = 1;
+    l = ind_lights(list, sizeof list, t.state);
+    CHECK(l.ready == 1);
+    CHECK(lit(&l, 0, bits(6, 7, 9) | bits(10, 12, 12), bits(8, 11, 11)));
+    t.state.pos[0] = 1;
+    t.state.var[2] = 1;
+    l = ind_lights(list, sizeof list, t.state);
+    CHECK(l.waiting == 1 && lit(&l, 0, bits(1, 2, 2), 0));
+
+    /* 7 and 8 with a waiting station: all zeros */
+    l = ind_lights(list, sizeof list - 8, t.state);
+    CHECK(l.number == IND_LIST && l.waiting == 0);
+    for (int v = 0; v < IND_VARS; v++)
+        CHECK(l.rows[0][v] == 0 && l.rows[1][v] == 0);
+    t.state.m = 4096;
+    l = ind_lights(list, sizeof list, t.state);
+    CHECK(l.waiting == 1 && lit(&l, 0, bits(1, 2, 2), 0));
+    t.state.m = 4097;
+    l = ind_lights(list, sizeof list, t.state);
+    CHECK(l.number == IND_STATE && l.waiting == 0);
+    for (int v = 0; v < IND_VARS; v++)
+        CHECK(l.rows[0][v] == 0 && l.rows[1][v] == 0);
+}
+
 /* The step limit: 4,096 steps stand, one more is FULL, and each can be
  * withdrawn. */
 static void test_full(void)
@@ -970,7 +1269,7 @@ static void make_list(struct maker *k, const uint8_t *file, size_t count)
         size_t end = ++k->at, stop = k->next;
 
         while (end < count && file[8 * end] != IND_STATION)
-            stop += opens_statement(file[8 * end++]);
+            stop += (size_t)opens_statement(file[8 * end++]);
         k->station = (uint8_t)j;
         k->list[16 * j] = IND_INIT;
         k->list[16 * j + 1] = (uint8_t)j;
@@ -984,9 +1283,59 @@ static void make_list(struct maker *k, const uint8_t *file, size_t count)
     }
 }
 
+/* Whether the list's record by itself reads (row 0) or writes (row 1) the
+ * variable. */
+static int touches(const uint8_t *r, int row, uint32_t v)
+{
+    uint32_t k = 0;
+
+    for (int i = 3; i >= 0; i--)
+        k = k << 8 | r[4 + i];
+    if (row == 1)
+        return r[0] == IND_SET && r[1] == v;
+    if (r[0] == IND_SET)
+        return (r[3] >= 1 && r[2] == v) || (r[3] >= 4 && k == v);
+    if (r[0] == IND_IF || r[0] == IND_WHILE || r[0] == IND_AWAIT)
+        return r[2] == v || (r[3] >= 4 && k == v);
+    return 0;
+}
+
+/* For each row and place the variables, bit v for variable v: of an inside
+ * record what is touched from it on, of any other what it touches itself. */
+struct touched {
+    uint32_t row[2][IND_MAX_ITEMS];
+};
+
+/* An inside record's targets are higher, so they are done before it. */
+static void find_touched(struct touched *t, const uint8_t *list, size_t len)
+{
+    for (size_t place = len / 16; place-- > 0;) {
+        const uint8_t *r = list + 16 * place;
+        size_t t1 = (size_t)r[10] | (size_t)r[11] << 8;
+        size_t t2 = (size_t)r[12] | (size_t)r[13] << 8;
+
+        for (int row = 0; row < 2; row++) {
+            uint32_t mine = 0;
+
+            for (uint32_t v = 0; v < IND_VARS; v++)
+                if (touches(r, row, v))
+                    mine |= UINT32_C(1) << v;
+            if (r[9] == 1 && t1 != 0)
+                mine |= t->row[row][t1];
+            if (r[9] == 1 && t2 != 0)
+                mine |= t->row[row][t2];
+            t->row[row][place] = mine;
+        }
+    }
+}
+
+/* How often a station was met waiting and ready at an AWAIT of each op. */
+static unsigned long met[2][8];
+
 /* Readiness of a station against its record in the list, against its lights
- * and against a step that picks it. */
+ * and against a step that picks it; its lights against what is touched. */
 static void check_station(const uint8_t *list, size_t len,
+                          const struct touched *touched,
                           const struct ind_state *state,
                           const struct ind_lights_answer *l, size_t j)
 {
@@ -1011,6 +1360,23 @@ static void check_station(const uint8_t *list, size_t len,
     CHECK((l->ready >> j & 1) == (number == IND_FINE));
     CHECK((l->ended >> j & 1) == (number == IND_ENDED));
     CHECK((l->waiting >> j & 1) == (number == IND_NOT_READY));
+
+    /* "a waiting AWAIT reads only the variables of its condition and writes
+     * none"; a ready one touches what is touched from its t1 on, too */
+    {
+        uint32_t reads = touched->row[0][state->pos[j]];
+        uint32_t writes = touched->row[1][state->pos[j]];
+
+        if (r[0] == IND_AWAIT) {
+            met[number == IND_FINE][r[3]]++;
+            if (number == IND_FINE) {
+                reads |= touched->row[0][state->pos[j] + 1];
+                writes |= touched->row[1][state->pos[j] + 1];
+            }
+        }
+        CHECK(lit(l, j, reads, writes));
+    }
+
     s = ind_step(list, len, *state, log, sizeof log, (uint8_t)j, 255);
     if (number != IND_FINE)
         CHECK(s.number == number);
@@ -1023,6 +1389,7 @@ static void test_random(struct rng *g, int rounds)
 {
     static struct sequence p;
     static struct maker k;
+    static struct touched touched;
     static uint8_t list[IND_ITEM * IND_MAX_ITEMS], log[200], log2[200];
 
     for (int round = 0; round < rounds; round++) {
@@ -1043,6 +1410,7 @@ static void test_random(struct rng *g, int rounds)
         make_list(&k, p.bytes, p.len / 8);
         len = 16 * (size_t)built.count;
         CHECK(k.next == built.count && memcmp(k.list, list, len) == 0);
+        find_touched(&touched, list, len);
 
         for (size_t i = 0; i < p.len; i += 8)
             n += p.bytes[i] == IND_STATION;
@@ -1062,7 +1430,7 @@ static void test_random(struct rng *g, int rounds)
             CHECK((l.in_turn & ~l.ready) == 0);
             CHECK((l.ready == 0) == (l.in_turn == 0));
             for (size_t j = 0; j < n; j++)
-                check_station(list, len, &s.state, &l, j);
+                check_station(list, len, &touched, &s.state, &l, j);
             if (l.in_turn == 0)
                 break;
             while ((l.in_turn >> i & 1) == 0)
@@ -1134,6 +1502,104 @@ static void test_random(struct rng *g, int rounds)
     }
 }
 
+/* Gives a built list other targets, and it stays sound: a body may lead into
+ * another, and an outside record anywhere outside. */
+static void scramble(struct rng *g, uint8_t *list, size_t len)
+{
+    size_t items = len / 16;
+
+    for (size_t i = 0; i < items; i++) {
+        uint8_t *r = list + 16 * i;
+        int both = r[0] == IND_IF || r[0] == IND_WHILE;
+
+        for (int at = 10; at <= 12; at += 2) {
+            size_t from = r[9] == 1 ? i + 1 : 0, to;
+
+            if (r[0] == IND_INIT || r[8] == IND_INITIAL || r[0] == IND_STOP
+                || (r[0] == IND_AWAIT && at == 10)
+                || (at == 12 && !both && r[0] != IND_AWAIT)
+                || chance(g, 60))
+                continue;
+            to = from + below(g, (uint32_t)(items - from) + 1);
+            while (to < items && (list[16 * to] == IND_INIT
+                                  || list[16 * to + 8] != r[8]
+                                  || list[16 * to + 9] != r[9]))
+                to++;
+            if (to >= items && r[9] == 0)
+                continue;
+            if (to >= items)
+                to = 0;
+            r[at] = (uint8_t)(to & 255);
+            r[at + 1] = (uint8_t)(to >> 8);
+        }
+    }
+}
+
+/* Random lists, the built and the scrambled: steps, undos and changes of
+ * variables that no call makes, and after each the lights of each station. */
+static void test_random_lights(struct rng *g, int rounds)
+{
+    static struct sequence p;
+    static struct touched touched;
+    static uint8_t list[IND_ITEM * IND_MAX_ITEMS], log[400];
+
+    memset(met, 0, sizeof met);
+    for (int round = 0; round < rounds; round++) {
+        uint8_t resets[8];
+        uint8_t b = (uint8_t)below(g, 3);
+        struct ind_state_answer s;
+        size_t len, n = 0;
+
+        random_sequence(g, &p, 8, 80 + below(g, 400));
+        len = ind_build(p.bytes, p.len, list, sizeof list).count * 16u;
+        while (list[16 * n] == IND_INIT)
+            n++;
+        if (chance(g, 60))
+            scramble(g, list, len);
+        find_touched(&touched, list, len);
+        for (size_t i = 0; i < 8; i++)
+            resets[i] = (uint8_t)below(g, b + 1u);
+        s = ind_start(list, len, b, resets, n, log, sizeof log);
+        CHECK(s.number == IND_FINE);
+        for (int turn = 0; turn < 60; turn++) {
+            struct ind_state changed = s.state;
+            struct ind_lights_answer l = ind_lights(list, len, s.state);
+            size_t i = below(g, 8);
+
+            for (size_t j = 0; j < n; j++)
+                check_station(list, len, &touched, &s.state, &l, j);
+
+            /* variables and positions as no call left them */
+            for (uint8_t v = 0; v < 3; v++)
+                changed.var[v] = random_constant(g);
+            for (size_t j = 0; j < n; j++) {
+                size_t to = below(g, (uint32_t)(len / 16));
+
+                if (list[16 * to] != IND_INIT && list[16 * to + 8] == j
+                    && list[16 * to + 9] == 0)
+                    changed.pos[j] = (uint16_t)to;
+            }
+            l = ind_lights(list, len, changed);
+            for (size_t j = 0; j < n; j++)
+                check_station(list, len, &touched, &changed, &l, j);
+
+            /* a step or an undo */
+            l = ind_lights(list, len, s.state);
+            if (s.state.m > 0 && (l.in_turn == 0 || chance(g, 30))) {
+                s = ind_undo(list, len, s.state, log, sizeof log);
+            } else if (l.in_turn != 0) {
+                while ((l.in_turn >> i & 1) == 0)
+                    i = (i + 1) % 8;
+                s = ind_step(list, len, s.state, log, sizeof log, (uint8_t)i,
+                             (uint8_t)below(g, b + 1u));
+            }
+            CHECK(s.number == IND_FINE);
+        }
+    }
+    for (int op = 0; op < 8; op++)
+        CHECK(met[0][op] > 1000 && met[1][op] > 1000);
+}
+
 /* A SKIP that ends a loop which ends a branch goes to its own WHILE: one of
  * "what the bench would wrongly let through". */
 static void test_loop_ends_branch(void)
@@ -1161,7 +1627,7 @@ static void test_loop_ends_branch(void)
 
 int main(void)
 {
-    struct rng g = { 1 };
+    struct rng g = { 1 }, h = { 2 };
 
     test_check_cases();
     test_p9_p10();
@@ -1169,10 +1635,14 @@ int main(void)
     test_ended();
     test_readiness();
     test_foreign_stops();
+    test_waiting_lights();
+    test_waiting_beside();
+    test_foreign_waiting();
     test_full();
     test_loop_ends_branch();
     test_shape(6);
     test_random(&g, 1500);
+    test_random_lights(&h, 1500);
     printf("%lu checks, %lu failed\n", checks, failures);
     return failures != 0;
 }

@@ -3,8 +3,8 @@
  * until it ends: two bytes each, a station and its reset to pick it, or 255 and 0 to take the last step back. It prints
  * a line for the start and for each key: 0 or the number of the refusal, the standing steps, variable 0, the
  * priorities, and the lights of the state that is there: which stations are ready, in turn, waiting and ended, and
- * which read and write variable 0 next. Then, station by station and in words, whether it is ready, has ended, or waits
- * and at which record.
+ * which read and write variable 0 next. While station 1 waits it is lit as reading it and not as writing it; once
+ * released, as both. Then, station by station and in words, whether it is ready, has ended, or waits and at which record.
  */
 #include "press.h"
 #include <stdio.h>

@@ -177,7 +177,7 @@ press_told press_readiness(press_state state, const uint8_t *list, size_t list_l
 /*
  * 0 and the lights; or a refusal and zeros. Each mask has bit i for station i: the stations that are ready, in turn
  * (ready, and no ready one has a lower priority number), waiting and ended. rows[0][v] has the stations whose next steps
- * read variable v, rows[1][v] those whose next steps write it.
+ * read variable v, rows[1][v] those whose next steps write it; a waiting station only reads, in its condition.
  */
 typedef struct press_lit {
     uint8_t number;
@@ -189,9 +189,10 @@ typedef struct press_lit {
 } press_lit;
 
 /*
- * Which stations are ready, in turn, waiting and ended in a state, and which read and write each variable next; an AWAIT
- * touches what its condition and its whole body do. It keeps nothing from call to call and writes nothing. Refused
- * (PRESS_LIST, PRESS_STATE, in this order), it answers zeros and the number.
+ * Which stations are ready, in turn, waiting and ended in a state, and which read and write each variable next. A
+ * station at an AWAIT that is ready is shown at what the condition and the whole body touch; one that is waiting reads
+ * the variables of its condition, which is what holds it, and writes none. It keeps nothing from call to call and writes
+ * nothing. Refused (PRESS_LIST, PRESS_STATE, in this order), it answers zeros and the number.
  */
 press_lit press_lights(press_state state, const uint8_t *list, size_t list_len);
 

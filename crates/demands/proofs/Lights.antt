@@ -9,6 +9,7 @@ use Rattle.rules.specs.Lights.{lights}
 use Rattle.rules.specs.Calls.{ruled}
 use Rattle.rules.specs.History.{Steps}
 use Rattle.lit.proofs.Shown.{lights-show}
+use Rattle.lit.proofs.Waiting.{lit-as-waiting}
 use Rattle.fair.proofs.Taken.{step-taken}
 use Rattle.history.specs.Back.{Made, by-start, by-step, below}
 use Rattle.history.proofs.Stack.{stack-facts}
@@ -39,7 +40,9 @@ below-made list (by-step p log made h) = let f = stack-facts list made in lit li
 pub lights-fresh : LightsFresh ruled
 lights-fresh list s log calls steps stands =
     let back = undo-below list s log calls steps stands in
+    let before = below-made list (back .made) in
     record {
       lit = lit list _ (stack-facts list (back .made) .of-list) (back .sound);
-      lit-undone = rw (back .undone) (below-made list (back .made));
+      lit-undone = rw (back .undone) before;
+      waits-undone = λ j within waits. rw (back .undone) (lit-as-waiting list _ _ (before .1) j within waits);
     }

@@ -5,6 +5,7 @@ use Rattle.laws.proofs.Ready.{readiness-tells}
 use Rattle.laws.proofs.Told.{step-tells}
 use Rattle.lit.proofs.Shown.{lights-show}
 use Rattle.lit.proofs.Split.{masks-split}
+use Rattle.lit.proofs.Waiting.{waiting-lit}
 use Rattle.fair.proofs.Taken.{step-taken}
 use Rattle.fair.proofs.Deadlock.{no-deadlock, step-there}
 use Rattle.language.proofs.Meant.{transitions-determined}
@@ -56,6 +57,7 @@ demand-2 =
       log-written = log-written;
       lights-show = lights-show;
       masks-split = masks-split;
+      waiting-lit = waiting-lit;
       in-turn = in-turn;
       lights-fresh = lights-fresh;
     }

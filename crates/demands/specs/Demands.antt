@@ -11,7 +11,7 @@ use Rattle.rules.specs.State.{State}
 use Rattle.rules.specs.Calls.{Seven}
 use Rattle.laws.specs.Tells.{ReadinessTells, StepTells}
 use Rattle.reading.specs.Accepted.{Accepted}
-use Rattle.lit.specs.Lit.{LightsShow, MasksSplit}
+use Rattle.lit.specs.Lit.{LightsShow, MasksSplit, WaitingLit}
 use Rattle.fair.specs.Taken.{StepTaken, NoDeadlock, StepThere}
 use Rattle.language.specs.Claims.{Determined}
 use Rattle.history.specs.Back.{UndoBelow}
@@ -70,6 +70,7 @@ pub record Demand2 (bench : Seven) : Type 0 where
   pub log-written : LogWritten bench
   pub lights-show : LightsShow bench
   pub masks-split : MasksSplit bench
+  pub waiting-lit : WaitingLit bench
   pub in-turn : InTurn bench
   pub lights-fresh : LightsFresh bench
 

@@ -5,13 +5,14 @@ use mathlib.Core.Logic.{_↔_}
 use mathlib.Core.Bool.{true}
 use mathlib.Core.List.{List}
 use mathlib.Core.Option.{some}
-use Prim.Native.Nat.{ℕ, _≤_}
+use Prim.Native.Nat.{ℕ, _≤_, _<_}
 use Rattle.rules.specs.Records.{Pick}
 use Rattle.rules.specs.State.{State}
+use Rattle.rules.specs.Ready.{waiting}
 use Rattle.rules.specs.Lights.{Lights}
 use Rattle.rules.specs.Calls.{Seven}
 use Rattle.rules.specs.History.{Call, Steps, Now, history}
-use Rattle.lit.specs.Lit.{bit, Shows}
+use Rattle.lit.specs.Lit.{bit, Shows, LitAsWaiting}
 use Rattle.laws.specs.Passed.{CanStep}
 use Rattle.history.specs.Back.{below}
 
@@ -25,10 +26,14 @@ InTurn bench =
 abbrev pub Lit : List ℕ → State → Lights → Type 0
 Lit list s a = (a .number ≡ 0) × Shows list s a
 
--- after any history they show the last state answered, and after an undo the state below the top, each worked out from that state alone
+-- after any history they show the last state answered, and after an undo the state below the top, each worked out from that state alone. A
+-- station that waits there, so one that the step withdrawn had released, is lit again as reading its condition's variables and no others, and
+-- as writing none
 pub record Fresh (bench : Seven) (list : List ℕ) (now : Now) (steps : Steps) : Type 0 where
   pub lit : Lit list (now .state) (bench .lights list (now .state))
   pub lit-undone : Lit list (below steps .state) (bench .lights list (bench .undo list (now .state) (now .log) .state))
+  pub waits-undone : (j : ℕ) → j < below steps .state .n → waiting list (below steps .state) j ≡ true
+      → LitAsWaiting list (below steps .state) (bench .lights list (bench .undo list (now .state) (now .log) .state)) j
 
 abbrev pub LightsFresh : Seven → Type 0
 LightsFresh bench =

@@ -38,9 +38,8 @@ use Rattle.lit.proofs.Only.{shows-only}
 use Rattle.fair.specs.Sound.{Held}
 use Rattle.demands.specs.Order.{before-steps}
 use Rattle.demands.specs.Runs.{Singles, one-more}
-use Rattle.demands.specs.Lights.{Lit}
 use Rattle.demands.specs.Demands.{Demand2}
-use Rattle.frauds.specs.Frauds.{ByDemand2, WithTests}
+use Rattle.frauds.specs.Frauds.{Remembering, AsAsked, Keeps, ByDemand2, WithTests}
 use Rattle.demands.proofs.Unrefused.{start-same, step-same, singles-ruled, run-same}
 use Rattle.demands.proofs.Only.{no-other}
 
@@ -150,6 +149,8 @@ record Computed : Type 0 where
   ready-0 : lights list s₀ .ready ≡ 1
   lit-1 : lights list s₁ .number ≡ 0
   ready-1 : lights list s₁ .ready ≡ 2
+  written-0 : getD (getD (lights list s₀ .rows) 1 []) 0 0 ≡ 1
+  written-1 : getD (getD (lights list s₁ .rows) 1 []) 0 0 ≡ 2
   waits : ready list s₀ 1 ≡ false
   released : ready list s₁ 1 ≡ true
   ended-step : step list s₁ l₁ (pick 0 0) .number ≡ 16
@@ -177,6 +178,8 @@ computed =
       ready-0 = refl;
       lit-1 = refl;
       ready-1 = refl;
+      written-0 = refl;
+      written-1 = refl;
       waits = refl;
       released = refl;
       ended-step = refl;
@@ -281,18 +284,23 @@ module _ (bench : Seven) (two : Demand2 bench) where
   ready-1 = ap (λ (a : Lights). a .ready) lit-1 ∙ computed .ready-1
 
   -- one answer cannot show both the state after the step and the one before it
-  kept : (lit : List ℕ → State → List ℕ → List Call → Lights)
-      → ((list : List ℕ) (s : State) (log : List ℕ) (calls : List Call) (steps : Steps) → history bench list s log calls .standing ≡ some steps
-      → Lit list (history bench list s log calls .state) (lit list s log calls))
-      → ((list : List ℕ) (s : State) (log : List ℕ) (calls : List Call) (steps : Steps) (p : Pick) (t : State)
-      → history bench list s log calls .standing ≡ some (taken steps p t)
-      → lit list s log (calls ++ (UNDO ∷ [])) .ready ≡ lit list s log calls .ready) → ⊥
+  kept : (lit : Remembering) → AsAsked bench lit → Keeps bench lit (λ a. a .ready) → ⊥
   kept lit fresh keeps =
       let forward = rw after-one at (fresh list zeros junk calls t₁ (rw after-one)) in
       let back = rw after-back at (fresh list zeros junk (calls ++ (UNDO ∷ [])) t₀ (rw after-back)) in
       let on = forward .1 .on-ready 1 .1 (omega arith, computed .released) in
       let same = rw (sym (keeps list zeros junk calls t₀ (pick 0 1) s₁ (rw after-one))) at on in
       false≢true (sym (computed .waits) ∙ back .1 .on-ready 1 .0 same .1)
+
+  rows-kept : (lit : Remembering) → AsAsked bench lit → Keeps bench lit (λ a. a .rows) → ⊥
+  rows-kept lit fresh keeps =
+      let forward = rw after-one at (fresh list zeros junk calls t₁ (rw after-one)) in
+      let back = rw after-back at (fresh list zeros junk (calls ++ (UNDO ∷ [])) t₀ (rw after-back)) in
+      let there = shows-only list s₁ _ _ (forward .0 ∙ sym (computed .lit-1)) (forward .1) (lights-show list s₁ (computed .lit-1)) in
+      let here = shows-only list s₀ _ _ (back .0 ∙ sym (computed .lit-0)) (back .1) (lights-show list s₀ (computed .lit-0)) in
+      let same = rw (here, there) at (keeps list zeros junk calls t₀ (pick 0 1) s₁ (rw after-one)) in
+      let written = ap (λ (rows : List (List ℕ)). getD (getD rows 1 []) 0 0) same in
+      omega (arith, sym (computed .written-0) ∙ written ∙ computed .written-1)
 
   -- each single step is one step more
   counted : {list picks : List ℕ} {s : State} {log : List ℕ} {k : ℕ} {t : State} {left : List ℕ} → Held s → Singles bench list picks s log k t left
@@ -390,6 +398,12 @@ by-demand-2 bench two =
           let e : _≡_ {A = ℕ} 0 1 = sym (ap (λ (a : Lights). a .ready) (h list s₀ (number-0 bench two))) ∙ ready-0 bench two in
           omega (arith, e);
       lights-kept = kept bench two;
+      rows-kept = rows-kept bench two;
+      waiting-writes = λ list s answered j l w v within lit.
+          false≢true (sym (two .waiting-lit list s answered j l w .writes-none v within) ∙ lit);
+      waiting-reads = λ list s answered j l w v within lit other. other (two .waiting-lit list s answered j l w .reads-condition v within .0 lit);
+      waiting-misses = λ list s answered j l w v within dark asks.
+          false≢true (sym dark ∙ two .waiting-lit list s answered j l w .reads-condition v within .1 asks);
       undo-priorities = λ list s log calls steps stands other.
           other (ap (λ (a : Undone). a .state .priorities) (two .undo-below list s log calls steps stands .undone));
       waiting-charged = λ list s log p h e j l w other. other (stays bench two list s log p h e j l (not-ready list s j l w));

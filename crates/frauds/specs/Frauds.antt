@@ -8,19 +8,20 @@ use mathlib.Core.List.{List, [], _∷_, _++_}
 use mathlib.Core.Option.{some}
 use Prim.Native.Nat.{ℕ, _+_, _*_, _/_, _≤_, _<_}
 use lib.Dec.{eqb}
-use lib.ListN.{length, take}
+use lib.ListN.{length, take, getD}
 use lib.IntN.{ℤ}
 use Rattle.rules.specs.Words.{if_then_else_, changed, Answer}
-use Rattle.rules.specs.Names.{LENGTH, LIST, ENDED}
+use Rattle.rules.specs.Names.{LENGTH, LIST, ENDED, variables}
 use Rattle.rules.specs.Records.{Pick, pick-at}
 use Rattle.rules.specs.State.{State, zeros, priority}
-use Rattle.rules.specs.Ready.{ended, waiting, ready}
+use Rattle.rules.specs.Ready.{next-step, ended, waiting, ready}
 use Rattle.rules.specs.Turn.{charged}
 use Rattle.rules.specs.Step.{Stepped, step}
 use Rattle.rules.specs.Lights.{Lights, dark}
 use Rattle.rules.specs.Calls.{Seven, ruled}
 use Rattle.rules.specs.History.{Call, UNDO, Steps, taken, history}
 use Rattle.reading.specs.Accepted.{Accepted}
+use Rattle.lit.specs.Lit.{bit, AsksOf}
 use Rattle.built.specs.Built.{built}
 use Rattle.fair.specs.Sound.{Held}
 use Rattle.history.specs.Back.{below}
@@ -36,6 +37,22 @@ with-m s m = record { vars = s .vars; positions = s .positions; priorities = s .
 
 abbrev pub with-priorities : State → List ℤ → State
 with-priorities s z = record { vars = s .vars; positions = s .positions; priorities = z; n = s .n; b = s .b; m = s .m }
+
+-- what is lit after any calls by a program that remembers; that it is what demand 2 asks; and that after an undo some part of it is what it
+-- was before
+abbrev pub Remembering : Type 0
+Remembering = List ℕ → State → List ℕ → List Call → Lights
+
+abbrev pub AsAsked : Seven → Remembering → Type 0
+AsAsked bench lit =
+    (list : List ℕ) (s : State) (log : List ℕ) (calls : List Call) (steps : Steps) → history bench list s log calls .standing ≡ some steps
+    → Lit list (history bench list s log calls .state) (lit list s log calls)
+
+abbrev pub Keeps : {A : Type 0} → Seven → Remembering → (Lights → A) → Type 0
+Keeps bench lit part =
+    (list : List ℕ) (s : State) (log : List ℕ) (calls : List Call) (steps : Steps) (p : Pick) (t : State)
+    → history bench list s log calls .standing ≡ some (taken steps p t)
+    → part (lit list s log (calls ++ (UNDO ∷ []))) ≡ part (lit list s log calls)
 
 -- the frauds of the run calls
 pub record ShutOut (bench : Seven) : Type 0 where
@@ -79,14 +96,18 @@ pub record ShutOut (bench : Seven) : Type 0 where
   -- LIGHTS that are always dark
   pub lights-dark : ((list : List ℕ) (s : State) → bench .lights list s .number ≡ 0
       → bench .lights list s ≡ record { number = 0; ready = 0; in-turn = 0; waiting = 0; ended = 0; rows = dark ∷ dark ∷ [] }) → ⊥
-  -- "lights kept from before" an undo, which takes a program that remembers: `lit` is what it lights after any calls, as demand 2 asks, but
-  -- that after an undo the stations lit as ready are those of before it
-  pub lights-kept : (lit : List ℕ → State → List ℕ → List Call → Lights)
-      → ((list : List ℕ) (s : State) (log : List ℕ) (calls : List Call) (steps : Steps) → history bench list s log calls .standing ≡ some steps
-      → Lit list (history bench list s log calls .state) (lit list s log calls))
-      → ((list : List ℕ) (s : State) (log : List ℕ) (calls : List Call) (steps : Steps) (p : Pick) (t : State)
-      → history bench list s log calls .standing ≡ some (taken steps p t)
-      → lit list s log (calls ++ (UNDO ∷ [])) .ready ≡ lit list s log calls .ready) → ⊥
+  -- "lights kept from before" an undo, which takes a program that remembers: the stations lit as ready, and the two rows
+  pub lights-kept : (lit : Remembering) → AsAsked bench lit → Keeps bench lit (λ a. a .ready) → ⊥
+  pub rows-kept : (lit : Remembering) → AsAsked bench lit → Keeps bench lit (λ a. a .rows) → ⊥
+  -- LIGHTS by which a waiting station writes, reads what its condition does not ask of, or does not read what it asks of
+  pub waiting-writes : (list : List ℕ) (s : State) → bench .lights list s .number ≡ 0 → (j : ℕ) → j < s .n → waiting list s j ≡ true
+      → (v : ℕ) → v < variables → bit (getD (getD (bench .lights list s .rows) 1 []) v 0) j ≡ true → ⊥
+  pub waiting-reads : (list : List ℕ) (s : State) → bench .lights list s .number ≡ 0 → (j : ℕ) → j < s .n → waiting list s j ≡ true
+      → (v : ℕ) → v < variables → bit (getD (getD (bench .lights list s .rows) 0 []) v 0) j ≡ true
+      → (AsksOf (next-step list s j .own) v → ⊥) → ⊥
+  pub waiting-misses : (list : List ℕ) (s : State) → bench .lights list s .number ≡ 0 → (j : ℕ) → j < s .n → waiting list s j ≡ true
+      → (v : ℕ) → v < variables → bit (getD (getD (bench .lights list s .rows) 0 []) v 0) j ≡ false
+      → AsksOf (next-step list s j .own) v → ⊥
   -- "Undo that restores variables but not priorities", in any history
   pub undo-priorities : (list : List ℕ) (s : State) (log : List ℕ) (calls : List Call) (steps : Steps)
       → history bench list s log calls .standing ≡ some steps

@@ -5,3 +5,4 @@ pub mod Touched
 pub mod Shown
 pub mod Only
 pub mod Split
+pub mod Waiting

@@ -2,7 +2,7 @@
 -- stands at an outside record of its own. Assumes nothing.
 use mathlib.Core.Path.{_≡_, refl, sym}
 use mathlib.Core.Logic.{_↔_}
-use mathlib.Core.Bool.{Bool, true, false≢true, or-true}
+use mathlib.Core.Bool.{Bool, true, false≢true, _&&_, or-true}
 use mathlib.Core.List.{List, [], _∷_}
 use Prim.Native.Nat.{ℕ}
 use borrow.Author.Tests.{eqb-true, eq-eqb}
@@ -12,7 +12,7 @@ use Rattle.rules.specs.Names.{AWAIT}
 use Rattle.rules.specs.Records.{Record, list-record-at}
 use Rattle.rules.specs.List.{outside, sound-list}
 use Rattle.rules.specs.State.{State, position}
-use Rattle.rules.specs.Ready.{next-step}
+use Rattle.rules.specs.Ready.{next-step, ready}
 use Rattle.rules.specs.Lights.{body, some-of, touches}
 use Rattle.laws.proofs.Choice.{by-test, both-left, both-right}
 use Rattle.lit.specs.Lit.{Touches, by-itself, by-body}
@@ -44,18 +44,20 @@ module _ (does : Record → Bool) (list : List ℕ) (s : State) (j : ℕ)
       by-test (does (step .own)) by-itself
       (λ not-itself.
       let rest = rw not-itself at h in
-      let await = both-left (eqb (step .own .kind) AWAIT) _ rest in
-      let (p, here, so) = some-there _ (body list (step .t1)) (both-right (eqb (step .own .kind) AWAIT) _ rest) in
-      by-body (eqb-true _ AWAIT await) (await-body-is-reached list sound j (position s j) stands await p .0 here) so)
+      let opens = both-left (eqb (step .own .kind) AWAIT && ready list s j) _ rest in
+      let await = both-left (eqb (step .own .kind) AWAIT) _ opens in
+      let (p, here, so) = some-there _ (body list (step .t1)) (both-right (eqb (step .own .kind) AWAIT && ready list s j) _ rest) in
+      by-body (eqb-true _ AWAIT await) (both-right (eqb (step .own .kind) AWAIT) _ opens)
+      (await-body-is-reached list sound j (position s j) stands await p .0 here) so)
 
   so-touched : Touches does list s j → touches does list s j ≡ true
   unfolding touches
   so-touched (by-itself so) = rw so
-  so-touched (by-body {p} is reached so) =
+  so-touched (by-body {p} is goes reached so) =
       let step = next-step list s j in
       let await = eq-eqb (step .own .kind) AWAIT is in
       let here = await-body-is-reached list sound j (position s j) stands await p .1 reached in
-      rw (await, there-some (λ q. does (list-record-at list q .own)) (body list (step .t1)) p here so, or-true)
+      rw (await, goes, there-some (λ q. does (list-record-at list q .own)) (body list (step .t1)) p here so, or-true)
 
   pub touches-means : (touches does list s j ≡ true) ↔ Touches does list s j
   touches-means = (touched-so, so-touched)

@@ -1,8 +1,8 @@
 -- What an answer of LIGHTS shows of a list and a state, bit by bit, without regard to how it is computed; and the claims that the rules'
--- answer shows this, that three of its masks split the stations, and that no second answer shows the same. proofs/Shown.antt,
--- proofs/Split.antt and proofs/Only.antt show them.
+-- answer shows this, that three of its masks split the stations, that a waiting station lights its condition alone, and that no second
+-- answer shows the same. proofs/Shown.antt, proofs/Split.antt, proofs/Waiting.antt and proofs/Only.antt show them.
 use mathlib.Core.Path.{_≡_}
-use mathlib.Core.Logic.{_↔_}
+use mathlib.Core.Logic.{_↔_, _⊎_}
 use mathlib.Core.Bool.{Bool, true, false}
 use mathlib.Core.List.{List, []}
 use Prim.Native.Nat.{ℕ, zero, suc, _/_, _%_, _≤_, _<_}
@@ -23,11 +23,11 @@ unfoldable pub bit : ℕ → ℕ → Bool
 bit m zero = eqb (m % 2) 1
 bit m (suc i) = bit (m / 2) i
 
--- station j's next step does this: its own record does, or it is an AWAIT and some record of its body does, "branches not taken included",
--- where "its body is every record reached from its t1 by targets of inside records"
+-- station j's next step does this: its own record does, or it is an AWAIT, the station is ready and some record of its body does, "branches not
+-- taken included", where "its body is every record reached from its t1 by targets of inside records"
 pub data Touches (does : Record → Bool) (list : List ℕ) (s : State) (j : ℕ) : Type 0 where
   by-itself : does (next-step list s j .own) ≡ true → Touches does list s j
-  by-body : {p : ℕ} → next-step list s j .own .kind ≡ AWAIT → Reached list (next-step list s j .t1) p
+  by-body : {p : ℕ} → next-step list s j .own .kind ≡ AWAIT → ready list s j ≡ true → Reached list (next-step list s j .t1) p
       → does (list-record-at list p .own) ≡ true → Touches does list s j
 
 -- "bit i for station i": the mask has the bits of the stations of which this is so, and no others
@@ -63,6 +63,23 @@ pub record Splits (s : State) (a : Lights) : Type 0 where
 
 abbrev pub MasksSplit : Seven → Type 0
 MasksSplit bench = (list : List ℕ) (s : State) → bench .lights list s .number ≡ 0 → Splits s (bench .lights list s)
+
+-- the condition of a record asks of variable v: its b, or, of conditions 4 to 7, its k
+abbrev pub AsksOf : Record → ℕ → Type 0
+AsksOf r v = (r .b ≡ v) ⊎ ((4 ≤ r .op) × (r .k ≡ v))
+
+-- document 02, T-02: "a waiting AWAIT reads only the variables of its condition and writes none". Station j's bits in the two rows
+pub record LitAsWaiting (list : List ℕ) (s : State) (a : Lights) (j : ℕ) : Type 0 where
+  pub at-await : next-step list s j .own .kind ≡ AWAIT
+  pub reads-condition : (v : ℕ) → v < variables
+      → (bit (getD (getD (a .rows) 0 []) v 0) j ≡ true) ↔ AsksOf (next-step list s j .own) v
+  pub writes-none : (v : ℕ) → v < variables → bit (getD (getD (a .rows) 1 []) v 0) j ≡ false
+
+-- each waiting station of the list is lit so
+abbrev pub WaitingLit : Seven → Type 0
+WaitingLit bench =
+    (list : List ℕ) (s : State) → bench .lights list s .number ≡ 0 → (j : ℕ) → j < s .n → waiting list s j ≡ true
+    → LitAsWaiting list s (bench .lights list s) j
 
 -- an answer that is not a refusal shows this, of any seven calls
 abbrev pub LightsShow : Seven → Type 0

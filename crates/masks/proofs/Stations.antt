@@ -37,7 +37,7 @@ each-before f (suc m) (suc n) within h =
 module _ (list : List ℕ) (s : State) where
   -- whether station j's next step does this
   abbrev by-step : (Record → Bool) → ℕ → Bool
-  by-step does j = touched does list (next-step list s j)
+  by-step does j = touched does list (next-step list s j) (ready list s j)
 
   -- no station
   row-none : (does : ℕ → Record → Bool) → replicate variables 0 ≡ row-from does list s (s .n)
@@ -94,7 +94,7 @@ module _ (list : List ℕ) (s : State) where
 
   pub gathered-more : {r masks : Masks} {j : ℕ} {case : Readiness} {turn : Bool} {t : Touched}
       → r ≡ with-station masks case turn t → j < s .n → masks ≡ masks-from list s (j + 1)
-      → case ≡ readiness-by list (s .vars) (position s j) → turn ≡ in-turn list s j → t ≡ touched-by list (next-step list s j)
+      → case ≡ readiness-by list (s .vars) (position s j) → turn ≡ in-turn list s j → t ≡ touched-by list (next-step list s j) (ready list s j)
       → r ≡ masks-from list s j
   unfolding ready waiting ended
   gathered-more {j = j} gathered station so-far case turn t =

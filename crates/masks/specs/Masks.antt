@@ -24,7 +24,7 @@ mask-from f n j = mask (λ i. f (j + i)) (n - j)
 
 -- the stations from j on whose next step does this
 abbrev pub does-from : (Record → Bool) → List ℕ → State → ℕ → ℕ
-does-from does list s j = mask-from (λ i. touched does list (next-step list s i)) (s .n) j
+does-from does list s j = mask-from (λ i. touched does list (next-step list s i) (ready list s i)) (s .n) j
 
 -- a row, of the stations from j on
 abbrev pub row-from : (ℕ → Record → Bool) → List ℕ → State → ℕ → List ℕ

@@ -14,7 +14,7 @@ use record::Record;
 use touches::Touched;
 
 // Of the stations from one on, which is bit 0: those that are ready, in turn, waiting and ended; and for each variable those whose next
-// step reads it, and those whose next step writes it.
+// step reads it, and those whose next step writes it. One that waits only reads, in its condition.
 pub struct Masks {
     pub ready: u8,
     pub in_turn: u8,
@@ -56,8 +56,9 @@ impl Masks {
             let place = positions[j];
             let e = ListRecord::at(list, place as usize);
             let case = Readiness::at(vars, e, place);
-            let in_turn = all[j] && stations::lowest_of(all, priorities, given, j);
-            masks = masks.with_station(case, in_turn, Touched::of(list, e));
+            let ready = all[j];
+            let in_turn = ready && stations::lowest_of(all, priorities, given, j);
+            masks = masks.with_station(case, in_turn, Touched::of(list, e, ready));
         }
         masks
     }

@@ -1,12 +1,13 @@
 -- "Bench cases": P1 to P12 as one table under a single claim, which the checker computes from the rules. A row is an input and what comes
--- out of it. Those under a P say what document 01 says; the bytes of the two lists, and the rows marked as ours, follow from its rules.
+-- out of it. Those under a P say what document 01 says, as document 02 amends it; the bytes of the two lists, and the rows marked as ours,
+-- follow from the rules.
 -- Assumes nothing.
 use Prim.Native.Nat.{ℕ, _+_, _-_, _*_}
 use mathlib.Core.Path.{_≡_, refl}
 use mathlib.Core.Bool.{Bool, true}
-use mathlib.Core.List.{List, [], _∷_, _++_, map}
+use mathlib.Core.List.{List, [], _∷_, _++_}
 use mathlib.Core.Option.{Option, none, some}
-use lib.ListN.{length, take, getD, replicate}
+use lib.ListN.{length, take, replicate}
 use lib.IntN.{ℤ, pos, negsuc}
 use Rattle.rules.specs.Words.{Answer, answer, each, first, tally, mask, values, changed, written, judge}
 use Rattle.rules.specs.Names.{LENGTH, FIELD, SHAPE, COMPONENT, NOT-READY, TURN, RESET, ENDED, STATION, SKIP, SET, IF, ELSE, FI, WHILE, OD, AWAIT, END, variables, max-stations, max-list}
@@ -86,6 +87,10 @@ stands vars positions priorities b m =
       m = m;
     }
 
+-- a row of masks, the zeros left out
+abbrev row-of-32 : List ℕ → List ℕ
+row-of-32 masks = masks ++ replicate (variables - length masks) 0
+
 abbrev goes : State → Answered
 goes s = record { number = 0; state = s }
 
@@ -110,8 +115,8 @@ data Row : Type 0 where
   passes-most : List ℕ → ℕ → List ℕ → List Call → ℕ → Row
   -- a file, and calls on its list; what the readiness of each station, and of one more, tells in the last state answered
   tells : List ℕ → List Call → List Answer → Row
-  -- a file, B, the resets, and a variable; its read mask and its write mask at the start
-  lights-up : List ℕ → ℕ → List ℕ → ℕ → ℕ → ℕ → Row
+  -- a file, and calls on its list; the read masks and the write masks in the last state answered, the zeros after them left out
+  lights-up : List ℕ → List Call → List ℕ → List ℕ → Row
   -- the three files of the trace program; what it prints
   prints : List ℕ → List ℕ → List ℕ → List ℕ → Row
 
@@ -128,10 +133,9 @@ Holds (passes-most file b resets cs j) =
 Holds (tells file cs told) =
     let s = calls-from ruled (list-made file) fresh cs .state in
     values (asked (list-made file) s) (s .n + 1) ≡ told
-Holds (lights-up file b resets v read write) =
-    let begins = start (list-made file) b resets junk in
-    let lit = lights (list-made file) (begins .state) in
-    (begins .number ∷ lit .number ∷ map (λ (row : List ℕ). getD row v 0) (lit .rows)) ≡ 0 ∷ 0 ∷ read ∷ write ∷ []
+Holds (lights-up file cs read write) =
+    let lit = lights (list-made file) (calls-from ruled (list-made file) fresh cs .state) in
+    ((lit .number ∷ []) ∷ lit .rows) ≡ (0 ∷ []) ∷ row-of-32 read ∷ row-of-32 write ∷ []
 Holds (prints program starts picks text) = trace program starts picks ≡ text
 
 -- each row of a table holds
@@ -151,7 +155,13 @@ dryer =
     plain STATION ++ eight SET 0 0 0 1
     ++ plain STATION ++ eight AWAIT 0 0 0 1 ++ eight SET 0 0 2 1 ++ plain END
 
--- its states with no step, one step and two
+-- ours: STATION; SET v0 := 1; STATION; AWAIT v0 differs from v1; SET v2 := v3; END
+abbrev feeder : List ℕ
+feeder =
+    plain STATION ++ eight SET 0 0 0 1
+    ++ plain STATION ++ eight AWAIT 0 0 5 1 ++ eight SET 2 3 1 0 ++ plain END
+
+-- Dryer's states with no step, one step and two
 abbrev dryer-0 : State
 dryer-0 = stands (0 ∷ []) (2 ∷ 4 ∷ []) (pos 0 ∷ pos 0 ∷ []) 0 0
 
@@ -234,8 +244,15 @@ table =
     ∷ plays dryer (START 0 (0 ∷ 0 ∷ []) ∷ pick 0 0 ∷ pick 0 0 ∷ []) (goes dryer-0 ∷ goes dryer-1 ∷ refused ENDED dryer-1 ∷ [])
     -- ours: and after the undo of that step it waits again
     ∷ tells dryer (START 0 (0 ∷ 0 ∷ []) ∷ pick 0 0 ∷ UNDO ∷ []) (answer 0 0 ∷ answer NOT-READY 4 ∷ answer COMPONENT 0 ∷ [])
-    -- At the start variable 0 has read mask 2 and write mask 3
-    ∷ lights-up dryer 0 (0 ∷ 0 ∷ []) 0 2 3
+    -- At the start variable 0 has read mask 2 and, as document 02 amends it, write mask 1
+    ∷ lights-up dryer (START 0 (0 ∷ 0 ∷ []) ∷ []) (2 ∷ []) (1 ∷ [])
+    -- ours: released, station 1 shows what its body does; after the undo of that step the body is out again
+    ∷ lights-up dryer (START 0 (0 ∷ 0 ∷ []) ∷ pick 0 0 ∷ []) (2 ∷ []) (2 ∷ [])
+    ∷ lights-up dryer (START 0 (0 ∷ 0 ∷ []) ∷ pick 0 0 ∷ UNDO ∷ []) (2 ∷ []) (1 ∷ [])
+    -- ours: what a waiting station reads is both variables of its condition, and not what its body reads; again after an undo
+    ∷ lights-up feeder (START 0 (0 ∷ 0 ∷ []) ∷ []) (2 ∷ 2 ∷ []) (1 ∷ [])
+    ∷ lights-up feeder (START 0 (0 ∷ 0 ∷ []) ∷ pick 0 0 ∷ []) (2 ∷ 2 ∷ 0 ∷ 2 ∷ []) (0 ∷ 0 ∷ 2 ∷ [])
+    ∷ lights-up feeder (START 0 (0 ∷ 0 ∷ []) ∷ pick 0 0 ∷ UNDO ∷ []) (2 ∷ 2 ∷ []) (1 ∷ [])
     -- ours: while it waits it is not passed over, though the step releases it
     ∷ passes dryer (START 0 (0 ∷ 0 ∷ []) ∷ pick 0 0 ∷ []) 1 0
     -- P12 "Dryer": picks 0, 1, then two undos give back the start state
@@ -264,4 +281,4 @@ all-hold : Every table
 unfolding each first tally mask values changed written judge record-from list-record-at rules-of fields-right stride wrong-at walked well-shaped too-deep-at check wrong-length field-place station-count depth-place parts-of stations-of leading-sets initial-part size laid inits bodies list-of bytes-of build stations initials-after is-at init-right initial-right outside-targets inside-target inside-targets later-right sound-list few-low empty-at sound-state set-value holds initial-run started start-records start readiness-at readiness ended waiting ready lowest body-run step-vars step-position charge stepped picked step replay starts-right replayed undo asked reads writes led-to body some-of touches lights decimal-digits priorities-text line end-line taken-pick picks-text run-text start-text trace stepped-on called calls-from answers passed-over
 all-hold =
     refl and refl and refl and refl and refl and refl and refl and refl and refl and refl
-    and refl and refl and refl and refl and refl and refl and refl and refl and refl and refl and refl and refl and refl and refl and refl and refl and refl and refl and refl and done
+    and refl and refl and refl and refl and refl and refl and refl and refl and refl and refl and refl and refl and refl and refl and refl and refl and refl and refl and refl and refl and refl and refl and refl and refl and done

@@ -39,11 +39,12 @@ unfoldable pub some-of : (ℕ → Bool) → List ℕ → Bool
 some-of f [] = false
 some-of f (p ∷ ps) = f p || some-of f ps
 
--- station j's next step does this, itself or, at an AWAIT, in its body, "branches not taken included"
+-- station j's next step does this, itself or, at a ready AWAIT, in its body, "branches not taken included". Document 02, T-02: "a waiting AWAIT
+-- reads only the variables of its condition and writes none; a ready AWAIT is shown as before"
 unfoldable pub touches : (Record → Bool) → List ℕ → State → ℕ → Bool
 touches does list s j =
     let e = next-step list s j in
-    does (e .own) || eqb (e .own .kind) AWAIT && some-of (λ p. does (list-record-at list p .own)) (body list (e .t1))
+    does (e .own) || eqb (e .own .kind) AWAIT && ready list s j && some-of (λ p. does (list-record-at list p .own)) (body list (e .t1))
 
 -- "four station masks, bit i for station i (ready; in turn …; waiting; ended), and two rows of 32 masks"
 pub record Lights : Type 0 where

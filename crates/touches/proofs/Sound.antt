@@ -8,7 +8,7 @@ use Rattle.rules.specs.Names.{max-list}
 use Rattle.rules.specs.Records.{Record, list-count}
 use Rattle.rules.specs.List.{sound-list}
 use Rattle.rules.specs.State.{State}
-use Rattle.rules.specs.Ready.{next-step}
+use Rattle.rules.specs.Ready.{next-step, ready}
 use Rattle.rules.specs.Lights.{body, touches}
 use Rattle.laws.proofs.Sound.{short}
 use Rattle.touches.specs.Touched.{body-within, touched}
@@ -19,6 +19,6 @@ unfolding body-within body
 body-whole list t1 fits = rw (le-leb (list-count list) max-list fits)
 
 pub touches-so : (does : Record → Bool) (list : List ℕ) (s : State) (j : ℕ) → sound-list list ≡ true
-    → touched does list (next-step list s j) ≡ touches does list s j
+    → touched does list (next-step list s j) (ready list s j) ≡ touches does list s j
 unfolding touched touches
 touches-so does list s j sound = rw (body-whole list (next-step list s j .t1) (short list sound))

@@ -67,18 +67,18 @@ nothing = record { reads = replicate variables false; writes = replicate variabl
 added-first : (f : ℕ → Bool) → added (replicate variables false) f ≡ values f variables
 added-first f = values-same _ f variables (λ v l. rw (getD-replicate variables v false false l))
 
--- a step that is no AWAIT touches what its record touches
-pub touched-itself : (list : List ℕ) (e : ListRecord) → eqb (e .own .kind) AWAIT ≡ false
-    → with-record nothing (e .own) ≡ touched-by list e
+-- a step that is no AWAIT, or of a station that is not ready, touches what its record touches
+pub touched-itself : (list : List ℕ) (e : ListRecord) (ready : Bool) → (eqb (e .own .kind) AWAIT && ready) ≡ false
+    → with-record nothing (e .own) ≡ touched-by list e ready
 unfolding with-record touched
-touched-itself list e other =
+touched-itself list e ready other =
     simp (other, added-first, or-false)
 
--- and an AWAIT also what its body's records touch
-pub touched-await : (list : List ℕ) (e : ListRecord) → eqb (e .own .kind) AWAIT ≡ true
-    → with-places list (with-record nothing (e .own)) (body-within list (e .t1)) ≡ touched-by list e
+-- and an AWAIT that is ready also what its body's records touch
+pub touched-await : (list : List ℕ) (e : ListRecord) (ready : Bool) → (eqb (e .own .kind) AWAIT && ready) ≡ true
+    → with-places list (with-record nothing (e .own)) (body-within list (e .t1)) ≡ touched-by list e ready
 unfolding with-record touched
-touched-await list e await =
+touched-await list e ready await =
     let itself = with-record nothing (e .own) in
     rw (with-places-by list itself (body-within list (e .t1)) (length-values _ variables) (length-values _ variables))
     (simp added-both (simp (added-first, await)))

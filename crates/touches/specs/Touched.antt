@@ -1,4 +1,5 @@
--- What a station's next step touches, as the code works it out: of a record that is handed over, record by record. These are definitions.
+-- What a station's next step touches, as the code works it out: of a record that is handed over, with whether its station is ready, record
+-- by record. These are definitions.
 use mathlib.Core.Path.{_≡_}
 use Prim.Native.Nat.{ℕ, _-_, _≤_, _<_}
 use mathlib.Core.Bool.{Bool, false, _&&_, _||_}
@@ -20,18 +21,18 @@ searched list = if leb (list-count list) max-list then list-count list else max-
 unfoldable pub body-within : List ℕ → ℕ → List ℕ
 body-within list t1 = led-to list (searched list - t1) t1 (t1 ∷ [])
 
--- the rules' `touches`, of the next step's record
-unfoldable pub touched : (Record → Bool) → List ℕ → ListRecord → Bool
-touched does list e =
+-- the rules' `touches`, of the next step's record and of whether its station is ready
+unfoldable pub touched : (Record → Bool) → List ℕ → ListRecord → Bool → Bool
+touched does list e ready =
     does (e .own)
-    || eqb (e .own .kind) AWAIT && some-of (λ p. does (list-record-at list p .own)) (body-within list (e .t1))
+    || eqb (e .own .kind) AWAIT && ready && some-of (λ p. does (list-record-at list p .own)) (body-within list (e .t1))
 
 -- what the next step reads, and what it writes
-abbrev pub touched-by : List ℕ → ListRecord → Touched
-touched-by list e =
+abbrev pub touched-by : List ℕ → ListRecord → Bool → Touched
+touched-by list e ready =
     record {
-      reads = values (λ v. touched (reads v) list e) variables;
-      writes = values (λ v. touched (writes v) list e) variables;
+      reads = values (λ v. touched (reads v) list e ready) variables;
+      writes = values (λ v. touched (writes v) list e ready) variables;
     }
 
 -- what was touched, and what a record touches too

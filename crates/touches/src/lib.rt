@@ -1,4 +1,4 @@
-// Which variables a station's next step touches: what it reads and what it writes, itself and, at an AWAIT, in its body.
+// Which variables a station's next step touches: what it reads and what it writes, itself and, at an AWAIT that is ready, in its body.
 ghost use mathlib.Core.Path.{_≡_};
 ghost use Prim.Native.Nat.{_≤_};
 ghost use lib.ListN.{length};
@@ -18,9 +18,10 @@ pub struct Touched {
 }
 
 impl Touched {
-    // What e, a station's next step, touches. Of a list of more than 1,032 records a body has only records among the first 1,032.
-    pub fn of(list: &[u8], e: ListRecord) -> Touched
-        ensures { λ r. ⌜ r ≡ touched-by (now (list .entry)) (as-list-record e) ⌝ }
+    // What e, a station's next step, touches; where the station is not ready, what that record alone touches. Of a list of more than 1,032
+    // records a body has only records among the first 1,032.
+    pub fn of(list: &[u8], e: ListRecord, ready: bool) -> Touched
+        ensures { λ r. ⌜ r ≡ touched-by (now (list .entry)) (as-list-record e) ready ⌝ }
     {
         let own = e.own;
         let nothing = Touched {
@@ -28,7 +29,7 @@ impl Touched {
             writes: [false; 32],
         };
         let itself = nothing.with_record(own);
-        if own.kind == Record::AWAIT {
+        if own.kind == Record::AWAIT && ready {
             return itself.with_body(list, e.t1 as usize);
         }
         itself

@@ -1,6 +1,6 @@
 -- `masks::Masks::of` meets its contract. The loop's invariant: the masks of the stations from j on are gathered. The measure is j.
 -- Assumes nothing.
-use mathlib.Core.Path.{_≡_, refl, ap, _∙_}
+use mathlib.Core.Path.{_≡_, refl, _∙_}
 use mathlib.Core.Logic.{⊎-elim}
 use Prim.Native.Nat.{_+_, _-_, _≤_, _<_, min}
 use native.Mathlib.Nat.{min-le-right}
@@ -8,6 +8,7 @@ use native.Mathlib.Omega.{arith}
 use borrow.Author.Needs.{needs}
 use Rattle.rules.specs.Names.{max-stations}
 use Rattle.rules.specs.State.{State}
+use Rattle.stations.proofs.Known.{ready-known}
 use Rattle.touches.specs.Touched.{touched-by}
 use Rattle.masks.specs.Masks.{state-of, masks-from}
 use Rattle.masks.proofs.Stations.{turn-known, gathered-none, gathered-more, room}
@@ -61,8 +62,8 @@ at-requires c κs = search needs
 at-requires-2 : tie.Need-at-requires-2 Inv-loop μ-loop
 at-requires-2 c κs = search needs
 
-array-read-if2 : tie.Need-array-read-if2 Inv-loop μ-loop
-array-read-if2 c = within (c .before .before .before)
+array-read-ready : tie.Need-array-read-ready Inv-loop μ-loop
+array-read-ready c = within (c .before .before .before)
 
 lowest-of-requires : tie.Need-lowest-of-requires Inv-loop μ-loop
 lowest-of-requires c κs = search needs
@@ -103,7 +104,7 @@ loop-again c =
     let so-far : at .loop .masks ≡ masks-from list s (j + 1) = rw back (at .loop .inv .1) in (
       omega (arith, at .loop .inv .0),
       gathered-more list s (c .with-station .ensures) here so-far (rw (found .at .ensures) at (case .at2 .ensures)) in-turn
-          (of .of .ensures ∙ ap (touched-by list) (found .at .ensures)),
+          (of .of .ensures ∙ (λ i. touched-by list (found .at .ensures i) (ready-known list s (few all) (all .ready .ensures) j i))),
     )
 
 returns : tie.Need-returns Inv-loop μ-loop
@@ -125,7 +126,7 @@ of-spec =
     cast-at
     at-requires
     at-requires-2
-    array-read-if2
+    array-read-ready
     lowest-of-requires
     of-requires
     with-station-requires
