@@ -5,6 +5,7 @@ use mathlib.Core.Option.{some}
 use Prim.Native.Nat.{ℕ, _<_}
 use lib.ListN.{getD}
 use Rattle.rules.specs.State.{State}
+use Rattle.rules.specs.Lent.{Lent}
 use Rattle.rules.specs.Start.{started, start}
 use Rattle.reading.specs.Accepted.{Accepted}
 use Rattle.built.specs.Built.{built}
@@ -21,12 +22,12 @@ use Rattle.history.proofs.Back.{undo-below}
 use Rattle.demands.specs.Computation.{Starts, Computation}
 
 module _ (file : List ℕ) (bytes : (i : ℕ) → getD file i 0 < 256) (accepted : Accepted file) where
-  pub starting : (b : ℕ) (resets log : List ℕ) → start (built file) b resets log .number ≡ 0 → Starts file resets (start (built file) b resets log .state)
+  pub starting : (b : ℕ) (resets : List ℕ) (lent : Lent) → start (built file) b resets lent .number ≡ 0 → Starts file resets (start (built file) b resets lent .state)
   unfolding started
-  starting b resets log e =
-      let t = start-can (built file) b resets log e in
+  starting b resets lent e =
+      let t = start-can (built file) b resets lent e in
       let w = start-whole file bytes accepted b resets in
-      rw (start-state (built file) b resets log e)
+      rw (start-state (built file) b resets lent e)
       (record {
         initial = w .1;
         whole = w .0;
@@ -34,19 +35,19 @@ module _ (file : List ℕ) (bytes : (i : ℕ) → getD file i 0 < 256) (accepted
       })
 
   pub computed : {steps : Steps} → Made ruled (built file) steps → Computation file steps
-  computed (by-start b resets log e) = starting b resets log e
-  computed (by-step {steps = steps} p log m e) =
+  computed (by-start b resets lent e) = starting b resets lent e
+  computed (by-step {steps = steps} p lent m e) =
       let h = stack-facts (built file) m in
-      let f = step-fair (built file) (top steps) log p (h .held) e in (
+      let f = step-fair (built file) (top steps) lent p (h .held) e in (
         computed m,
         record {
-          moves = taken-moves file bytes accepted (top steps) log p e;
+          moves = taken-moves file bytes accepted (top steps) lent p e;
           enabled = ready-enabled file bytes accepted (top steps) (sound-standing file bytes accepted (top steps) (h .sound));
           checked = f .0;
           updated = f .1;
         },
       )
 
-  pub computes : (s : State) (log : List ℕ) (calls : List Call) (steps : Steps) → history ruled (built file) s log calls .standing ≡ some steps
+  pub computes : (s : State) (lent : Lent) (calls : List Call) (steps : Steps) → history ruled (built file) s lent calls .standing ≡ some steps
       → Computation file steps
-  computes s log calls steps e = computed (undo-below (built file) s log calls steps e .made)
+  computes s lent calls steps e = computed (undo-below (built file) s lent calls steps e .made)

@@ -73,19 +73,19 @@ each-place n x y low high j =
 
 -- START
 pub start-when : StartTaken ruled
-start-when list b resets log = (
-  start-can list b resets log,
-  λ c. start-number list b resets log ∙ start-passed list b resets log .1 c,
+start-when list b resets lent = (
+  start-can list b resets lent,
+  λ c. start-number list b resets lent ∙ start-passed list b resets lent .1 c,
 )
 
 pub start-begins : StartBegins ruled
 unfolding started
-start-begins list b resets log e =
-    let t = start-can list b resets log e in
-    let state = start-state list b resets log e in
+start-begins list b resets lent e =
+    let t = start-can list b resets lent e in
+    let state = start-state list b resets lent e in
     let past : (j : ℕ) → stations list ≤ j → getD resets j 0 ≡ 0 = λ j l. List·getD-eq-default resets 0 (omega (arith, t .count)) in (
       record {
-        held = start-sound list b resets log e .1;
+        held = start-sound list b resets lent e .1;
         vars = rw state;
         positions = λ j l. rw state (start-position list b resets j l);
         priorities = λ j l. rw state (start-priority list b resets j);
@@ -97,7 +97,7 @@ start-begins list b resets log e =
         b-is = rw state;
         m-is = rw state;
       },
-      start-written list b resets log e,
+      start-written list b resets lent e,
     )
 
 pub begins-only : {list : List ℕ} {b : ℕ} {resets : List ℕ} {s t : State} → Begins list b resets s → Begins list b resets t → s ≡ t
@@ -114,14 +114,14 @@ begins-only {list} {b} {resets} {s} {t} x y =
 -- STEP
 pub step-does : StepDoes ruled
 unfolding stepped
-step-does list s log p held e =
-    let f = step-fair list s log p held e in
-    let t = step-state list s log p e in
-    let (can, c, r) = step-taken list s log p .0 e in
+step-does list s lent p held e =
+    let f = step-fair list s lent p held e in
+    let t = step-state list s lent p e in
+    let (can, c, r) = step-taken list s lent p .0 e in
     let there : p .station < length (s .positions) =
     omega (arith, c .station, held .positions, few-stations list (can .of-list), sound-means list s .0 (can .of-state) .of-list) in (
       record {
-        held = step-held list s log p held;
+        held = step-held list s lent p held;
         chosen = f .0;
         vars = rw t;
         positions = λ j. rw t
@@ -134,7 +134,7 @@ step-does list s log p held e =
         b-is = rw t;
         m-is = rw t;
       },
-      step-written list s log p e,
+      step-written list s lent p e,
     )
 
 pub does-only : {list : List ℕ} {s : State} {p : Pick} {t u : State} → Does list s p t → Does list s p u → t ≡ u
@@ -148,7 +148,7 @@ does-only {list} {s} {p} {t} {u} x y =
 -- UNDO
 pub undo-replays : UndoReplays ruled
 unfolding undo
-undo-replays list s log e = rw (eq-eqb (refusal (undo-tests list s log)) 0 (sym (undo-number list s log) ∙ e))
+undo-replays list s lent e = rw (eq-eqb (refusal (undo-tests list s lent)) 0 (sym (undo-number list s lent) ∙ e))
 
 -- BUILD's answer is what it lays, its number and its place
 pub lays-only : {file buffer : List ℕ} {a b : Built} → a .number ≡ b .number → a .place ≡ b .place → Lays file buffer a → Lays file buffer b → a ≡ b

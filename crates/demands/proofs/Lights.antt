@@ -25,21 +25,21 @@ lit : (list : List ℕ) (s : State) → sound-list list ≡ true → sound-state
 lit list s h v = let e = unrefused-lights list s h v in (e, lights-show list s e)
 
 pub in-turn : InTurn ruled
-in-turn list s log p can r =
+in-turn list s lent p can r =
     let shown = lit list s (can .of-list) (can .of-state) .1 .on-in-turn (p .station) in (
       λ h. let x = shown .0 h in
-          step-taken list s log p .1 (can, record { station = x .0; enabled = x .1 .0; lowest = x .1 .1 }, r),
-      λ h. let c = step-taken list s log p .0 h .1 in shown .1 (c .station, (c .enabled, c .lowest)),
+          step-taken list s lent p .1 (can, record { station = x .0; enabled = x .1 .0; lowest = x .1 .1 }, r),
+      λ h. let c = step-taken list s lent p .0 h .1 in shown .1 (c .station, (c .enabled, c .lowest)),
     )
 
 -- the state below a stack that START and STEP made is one of theirs
 below-made : (list : List ℕ) {steps : Steps} → Made ruled list steps → Lit list (below steps .state) (lights list (below steps .state))
-below-made list (by-start b resets log h) = let f = stack-facts list (by-start b resets log h) in lit list _ (f .of-list) (f .sound)
-below-made list (by-step p log made h) = let f = stack-facts list made in lit list _ (f .of-list) (f .sound)
+below-made list (by-start b resets lent h) = let f = stack-facts list (by-start b resets lent h) in lit list _ (f .of-list) (f .sound)
+below-made list (by-step p lent made h) = let f = stack-facts list made in lit list _ (f .of-list) (f .sound)
 
 pub lights-fresh : LightsFresh ruled
-lights-fresh list s log calls steps stands =
-    let back = undo-below list s log calls steps stands in
+lights-fresh list s lent calls steps stands =
+    let back = undo-below list s lent calls steps stands in
     let before = below-made list (back .made) in
     record {
       lit = lit list _ (stack-facts list (back .made) .of-list) (back .sound);

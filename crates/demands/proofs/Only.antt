@@ -10,6 +10,7 @@ use Rattle.rules.specs.Records.{Pick, pick-at}
 use Rattle.rules.specs.Check.{check}
 use Rattle.rules.specs.Build.{build}
 use Rattle.rules.specs.State.{State}
+use Rattle.rules.specs.Lent.{Lent}
 use Rattle.rules.specs.Start.{start}
 use Rattle.rules.specs.Step.{Stepped, step}
 use Rattle.rules.specs.Run.{Ran, run}
@@ -52,35 +53,35 @@ module _ (bench : Seven) (one : Demand1 bench) (two : Demand2 bench) where
       let left = x .0 ∙ sym (y .0) in
       λ i. record { number = number i; place = place i; count = count i; buffer = left i })
 
-  same-start : (list : List ℕ) (b : ℕ) (resets log : List ℕ) → bench .start list b resets log ≡ start list b resets log
-  same-start list b resets log =
-      let number : bench .start list b resets log .number ≡ start list b resets log .number =
-      one .start-order list b resets log ∙ sym (start-order list b resets log) in
-      by-number (start list b resets log .number)
-      (λ z. start-same bench two list b resets log z)
+  same-start : (list : List ℕ) (b : ℕ) (resets : List ℕ) (lent : Lent) → bench .start list b resets lent ≡ start list b resets lent
+  same-start list b resets lent =
+      let number : bench .start list b resets lent .number ≡ start list b resets lent .number =
+      one .start-order list b resets lent ∙ sym (start-order list b resets lent) in
+      by-number (start list b resets lent .number)
+      (λ z. start-same bench two list b resets lent z)
       (λ h.
-      let x = one .leaves .by-start list b resets log (λ z. h (sym number ∙ z)) in
-      let y = refusal-leaves .by-start list b resets log h in
+      let x = one .leaves .by-start list b resets lent (λ z. h (sym number ∙ z)) in
+      let y = refusal-leaves .by-start list b resets lent h in
       let state = x .0 ∙ sym (y .0) in
       let left = x .1 ∙ sym (y .1) in
-      λ i. record { number = number i; state = state i; log = left i })
+      λ i. record { number = number i; state = state i; lent = left i })
 
-  same-step : (list : List ℕ) (s : State) (log : List ℕ) (p : Pick) → Held s → bench .step list s log p ≡ step list s log p
-  same-step list s log p held =
-      let number : bench .step list s log p .number ≡ step list s log p .number =
-      one .step-order list s log p ∙ sym (step-order list s log p) in
-      by-number (step list s log p .number)
-      (λ z. taken-same bench two list s log p held z)
+  same-step : (list : List ℕ) (s : State) (lent : Lent) (p : Pick) → Held s → bench .step list s lent p ≡ step list s lent p
+  same-step list s lent p held =
+      let number : bench .step list s lent p .number ≡ step list s lent p .number =
+      one .step-order list s lent p ∙ sym (step-order list s lent p) in
+      by-number (step list s lent p .number)
+      (λ z. taken-same bench two list s lent p held z)
       (λ h.
-      let x = one .leaves .by-step list s log p (λ z. h (sym number ∙ z)) in
-      let y = refusal-leaves .by-step list s log p h in
+      let x = one .leaves .by-step list s lent p (λ z. h (sym number ∙ z)) in
+      let y = refusal-leaves .by-step list s lent p h in
       let state = x .0 ∙ sym (y .0) in
       let left = x .1 ∙ sym (y .1) in
-      λ i. record { number = number i; state = state i; log = left i })
+      λ i. record { number = number i; state = state i; lent = left i })
 
-  same-stops : {list picks : List ℕ} {s : State} {log : List ℕ} {count : ℕ} {a : Ran} → Held s
-      → Stops bench list picks s log count a → Stops ruled list picks s log count a
-  same-stops {list} {picks} {s} {log} {count} {a} held x =
+  same-stops : {list picks : List ℕ} {s : State} {lent : Lent} {count : ℕ} {a : Ran} → Held s
+      → Stops bench list picks s lent count a → Stops ruled list picks s lent count a
+  same-stops {list} {picks} {s} {lent} {count} {a} held x =
       let before = singles-ruled bench two held (x .singles) in
       record {
         singles = before .0;
@@ -88,27 +89,27 @@ module _ (bench : Seven) (one : Demand1 bench) (two : Demand2 bench) where
         to-the-end = x .to-the-end;
         refused = λ h.
             let r = x .refused h in
-            (r .0, ap (λ (b : Stepped). b .number) (sym (same-step list (a .state) (a .log) (pick-at picks (a .steps)) (before .1))) ∙ r .1);
+            (r .0, ap (λ (b : Stepped). b .number) (sym (same-step list (a .state) (a .lent) (pick-at picks (a .steps)) (before .1))) ∙ r .1);
       }
 
-  same-run : (list : List ℕ) (s : State) (log picks : List ℕ) (most : ℕ) → Held s
-      → bench .run list s log picks most ≡ run list s log picks most
-  same-run list s log picks most held =
-      let x = one .run-stops list s log picks most in
-      let y = run-stops list s log picks most in
+  same-run : (list : List ℕ) (s : State) (lent : Lent) (picks : List ℕ) (most : ℕ) → Held s
+      → bench .run list s lent picks most ≡ run list s lent picks most
+  same-run list s lent picks most held =
+      let x = one .run-stops list s lent picks most in
+      let y = run-stops list s lent picks most in
       by-number (before-steps list s picks)
       (λ z. stops-only (same-stops held (x .stops z)) (y .stops z))
       (λ h. x .refused-first h ∙ sym (y .refused-first h))
 
-  same-undo : (list : List ℕ) (s : State) (log : List ℕ) → bench .undo list s log ≡ undo list s log
-  same-undo list s log =
-      let number : bench .undo list s log .number ≡ undo list s log .number = one .undo-order list s log ∙ sym (undo-order list s log) in
-      by-number (undo list s log .number)
+  same-undo : (list : List ℕ) (s : State) (lent : Lent) → bench .undo list s lent ≡ undo list s lent
+  same-undo list s lent =
+      let number : bench .undo list s lent .number ≡ undo list s lent .number = one .undo-order list s lent ∙ sym (undo-order list s lent) in
+      by-number (undo list s lent .number)
       (λ z.
-      let state = two .undo-replays list s log (number ∙ z) ∙ sym (undo-replays list s log z) in
+      let state = two .undo-replays list s lent (number ∙ z) ∙ sym (undo-replays list s lent z) in
       λ i. record { number = number i; state = state i })
       (λ h.
-      let state = one .leaves .by-undo list s log (λ z. h (sym number ∙ z)) ∙ sym (refusal-leaves .by-undo list s log h) in
+      let state = one .leaves .by-undo list s lent (λ z. h (sym number ∙ z)) ∙ sym (refusal-leaves .by-undo list s lent h) in
       λ i. record { number = number i; state = state i })
 
   same-lights : (list : List ℕ) (s : State) → bench .lights list s ≡ lights list s

@@ -38,15 +38,15 @@ check-shapes file three =
 
 pub start-order : StartOrder ruled
 unfolding judge
-start-order list b resets log = start-number list b resets log ∙ simp judge-number
+start-order list b resets lent = start-number list b resets lent ∙ simp judge-number
 
 pub step-order : StepOrder ruled
 unfolding judge
-step-order list s log p = step-number list s log p ∙ simp judge-number
+step-order list s lent p = step-number list s lent p ∙ simp judge-number
 
 pub undo-order : UndoOrder ruled
 unfolding judge
-undo-order list s log = undo-number list s log ∙ simp judge-number
+undo-order list s lent = undo-number list s lent ∙ simp judge-number
 
 pub lights-order : LightsOrder ruled
 unfolding judge
@@ -101,8 +101,8 @@ unfolding build start step undo lights
 refusal-leaves =
     record {
       by-build = λ file buffer h. let e = ne-eqb _ 0 (λ z. h (build-number file buffer ∙ z)) in (rw e, rw e);
-      by-start = λ list b resets log h. let e = ne-eqb _ 0 (λ z. h (start-number list b resets log ∙ z)) in (rw e, rw e);
-      by-step = λ list s log p h. let e = ne-eqb _ 0 (λ z. h (step-number list s log p ∙ z)) in (rw e, rw e);
-      by-undo = λ list s log h. let e = ne-eqb _ 0 (λ z. h (undo-number list s log ∙ z)) in rw e;
+      by-start = λ list b resets lent h. let e = ne-eqb _ 0 (λ z. h (start-number list b resets lent ∙ z)) in (rw e, rw e);
+      by-step = λ list s lent p h. let e = ne-eqb _ 0 (λ z. h (step-number list s lent p ∙ z)) in (rw e, rw e);
+      by-undo = λ list s lent h. let e = ne-eqb _ 0 (λ z. h (undo-number list s lent ∙ z)) in rw e;
       by-lights = λ list s h. let e = ne-eqb _ 0 (λ z. h (lights-number list s ∙ z)) in (rw e, rw e, rw e, rw e, rw e);
     }

@@ -71,9 +71,9 @@ same-calls bench e =
     let check = fun-ext (e .check) in
     let build = fun-ext (λ file. fun-ext (e .build file)) in
     let start = fun-ext (λ list. fun-ext (λ b. fun-ext (λ resets. fun-ext (e .start list b resets)))) in
-    let step = fun-ext (λ list. fun-ext (λ s. fun-ext (λ log. fun-ext (λ p. e .step list s log p tt)))) in
-    let run = fun-ext (λ list. fun-ext (λ s. fun-ext (λ log. fun-ext (λ picks. fun-ext (λ most. e .run list s log picks most tt))))) in
-    let undo = fun-ext (λ list. fun-ext (λ s. fun-ext (λ log. e .undo list s log))) in
+    let step = fun-ext (λ list. fun-ext (λ s. fun-ext (λ lent. fun-ext (λ p. e .step list s lent p tt)))) in
+    let run = fun-ext (λ list. fun-ext (λ s. fun-ext (λ lent. fun-ext (λ picks. fun-ext (λ most. e .run list s lent picks most tt))))) in
+    let undo = fun-ext (λ list. fun-ext (λ s. fun-ext (λ lent. e .undo list s lent))) in
     let lights = fun-ext (λ list. fun-ext (λ s. e .lights list s)) in
     λ i. record { check = check i; build = build i; start = start i; step = step i; run = run i; undo = undo i; lights = lights i }
 

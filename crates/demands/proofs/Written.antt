@@ -9,6 +9,7 @@ use Rattle.rules.specs.Records.{Pick}
 use Rattle.rules.specs.Trees.{stations-of, initial-part}
 use Rattle.rules.specs.List.{stations}
 use Rattle.rules.specs.State.{State, position}
+use Rattle.rules.specs.Lent.{Lent}
 use Rattle.rules.specs.Step.{step}
 use Rattle.rules.specs.Calls.{ruled}
 use Rattle.laws.proofs.Places.{each-all, length-values}
@@ -34,37 +35,37 @@ active-within (parallel-rule l d) = l
 
 module _ (file : List ℕ) (bytes : (i : ℕ) → getD file i 0 < 256) (accepted : Accepted file) where
   start-there : StartThere ruled file
-  start-there b resets log count within room =
+  start-there b resets lent count within room =
       let n : stations (built file) ≡ length (stations-of file) = built-parts file bytes accepted .stations-are in
       let right = each-all _ (length resets) (λ j l. le-leb (getD resets j 0) b (within j (omega arith))) in
-      start-order (built file) b resets log
+      start-order (built file) b resets lent
       ∙ rw (
         built-sound file bytes accepted,
         n,
         eq-eqb (length resets) (length (stations-of file)) count,
         right,
-        le-ltb (length log) (2 * length (stations-of file)) room,
+        le-ltb (length (lent .log)) (2 * length (stations-of file)) room,
       )
 
-  module _ (s : State) (log : List ℕ) (p : Pick) (can : CanStep (built file) s log) where
+  module _ (s : State) (lent : Lent) (p : Pick) (can : CanStep (built file) s lent) where
     standing : Standing file s
     standing = sound-standing file bytes accepted s (can .of-state)
 
     allowed-taken : (Ss : List Program) (τ : List ℕ) → Allowed file s p Ss τ
-        → (step (built file) s log p .number ≡ 0)
-        × (Ss ≡ programs file (step (built file) s log p .state)) × (τ ≡ step (built file) s log p .state .vars)
+        → (step (built file) s lent p .number ≡ 0)
+        × (Ss ≡ programs file (step (built file) s lent p .state)) × (τ ≡ step (built file) s lent p .state .vars)
     allowed-taken Ss τ h =
         let l : p .station < s .n = omega (arith, active-within (h .moves), length-values (λ j. stands-for file j (position s j)) (s .n)) in
         let d = step-moves file bytes accepted s standing p l Ss τ .0 (h .moves) in
-        let e = step-taken (built file) s log p .1 (can, record { station = l; enabled = d .0; lowest = λ k m r. h .lowest k m (ready-enabled file bytes accepted s standing k m .0 r) }, h .reset) in
-        let t = step-state (built file) s log p e in
+        let e = step-taken (built file) s lent p .1 (can, record { station = l; enabled = d .0; lowest = λ k m r. h .lowest k m (ready-enabled file bytes accepted s standing k m .0 r) }, h .reset) in
+        let t = step-state (built file) s lent p e in
         (e, d .1 ∙ ap (λ (u : State). programs file u) (sym t), d .2 ∙ ap (λ (u : State). u .vars) (sym t))
 
-    taken-allowed : step (built file) s log p .number ≡ 0
-        → Allowed file s p (programs file (step (built file) s log p .state)) (step (built file) s log p .state .vars)
+    taken-allowed : step (built file) s lent p .number ≡ 0
+        → Allowed file s p (programs file (step (built file) s lent p .state)) (step (built file) s lent p .state .vars)
     taken-allowed e =
-        let t = step-state (built file) s log p e in
-        let (c, chosen, r) = step-taken (built file) s log p .0 e in
+        let t = step-state (built file) s lent p e in
+        let (c, chosen, r) = step-taken (built file) s lent p .0 e in
         record {
           moves = step-moves file bytes accepted s standing p (chosen .station) _ _ .1
               (chosen .enabled, ap (λ (u : State). programs file u) t, ap (λ (u : State). u .vars) t);
@@ -72,7 +73,7 @@ module _ (file : List ℕ) (bytes : (i : ℕ) → getD file i 0 < 256) (accepted
           reset = r;
         }
 
-    step-is : StepIs ruled file s log p
+    step-is : StepIs ruled file s lent p
     step-is =
         record {
           exactly-when = (λ e. (_, _, taken-allowed e), λ h. allowed-taken (h .0) (h .1) (h .2) .0);

@@ -8,6 +8,7 @@ use Prim.Native.Nat.{ℕ, _<_}
 use lib.ListN.{getD}
 use Rattle.rules.specs.Records.{Pick}
 use Rattle.rules.specs.State.{State}
+use Rattle.rules.specs.Lent.{Lent}
 use Rattle.rules.specs.Calls.{Seven}
 use Rattle.laws.specs.Tells.{ReadinessTells, StepTells}
 use Rattle.reading.specs.Accepted.{Accepted}
@@ -52,7 +53,7 @@ pub record Demand2 (bench : Seven) : Type 0 where
   -- where "a station is ready when not at STOP and, if at AWAIT, its condition holds", and is else ended or waiting, at the record told; and a
   -- step refused for that says which
   pub readiness : (list : List ℕ) (s : State) → ReadinessTells list s
-  pub step-tells : (list : List ℕ) (s : State) (log : List ℕ) (p : Pick) → StepTells bench list s log p
+  pub step-tells : (list : List ℕ) (s : State) (lent : Lent) (p : Pick) → StepTells bench list s lent p
   pub step-does : StepDoes bench
   pub start-when : StartTaken bench
   pub start-begins : StartBegins bench

@@ -7,13 +7,15 @@ use Prim.Native.Nat.{ℕ, _+_, _*_, _≤_, _<_}
 use lib.Dec.{eqb}
 use lib.ListN.{length, take, drop, getD, replicate}
 use lib.IntN.{pos}
-use Rattle.rules.specs.Words.{if_then_else_, written}
+use Rattle.rules.specs.Words.{if_then_else_}
 use Rattle.rules.specs.Names.{variables}
-use Rattle.rules.specs.Records.{list-record-at, Pick, pick-bytes}
+use Rattle.rules.specs.Records.{list-record-at, Pick}
 use Rattle.rules.specs.Build.{Built, list-records}
 use Rattle.rules.specs.List.{stations, initials}
 use Rattle.rules.specs.State.{State, position, priority}
-use Rattle.rules.specs.Start.{initial-run, start-records}
+use Rattle.rules.specs.Lent.{Lent}
+use Rattle.rules.specs.Start.{initial-run, with-starts}
+use Rattle.rules.specs.Step.{with-pick}
 use Rattle.rules.specs.Ready.{next-step, ready}
 use Rattle.rules.specs.Move.{step-vars, step-position}
 use Rattle.rules.specs.Undo.{replayed}
@@ -36,7 +38,7 @@ BuildLays bench = (file buffer : List ℕ) → bench .build file buffer .number 
 
 -- START takes what it needs, and nothing else
 abbrev pub StartTaken : Seven → Type 0
-StartTaken bench = (list : List ℕ) (b : ℕ) (resets log : List ℕ) → (bench .start list b resets log .number ≡ 0) ↔ CanStart list b resets log
+StartTaken bench = (list : List ℕ) (b : ℕ) (resets : List ℕ) (lent : Lent) → (bench .start list b resets lent .number ≡ 0) ↔ CanStart list b resets lent
 
 -- "It runs the initial part and sets priorities to the resets"; variables begin at 0, a station at its INIT's t1; the B is the one
 -- given, and no step stands
@@ -52,9 +54,9 @@ pub record Begins (list : List ℕ) (b : ℕ) (resets : List ℕ) (t : State) : 
 
 abbrev pub StartBegins : Seven → Type 0
 StartBegins bench =
-    (list : List ℕ) (b : ℕ) (resets log : List ℕ) → bench .start list b resets log .number ≡ 0
-    → Begins list b resets (bench .start list b resets log .state)
-    × (bench .start list b resets log .log ≡ written log 0 (start-records 0 resets))
+    (list : List ℕ) (b : ℕ) (resets : List ℕ) (lent : Lent) → bench .start list b resets lent .number ≡ 0
+    → Begins list b resets (bench .start list b resets lent .state)
+    × (bench .start list b resets lent .lent ≡ with-starts lent resets)
 
 -- STEP: the pick satisfies FAIR's SCH, judged before the step. "SKIP, SET, one test, and AWAIT with its body are one step each": the
 -- variables and the station's position after its next step; no other station moves. The priorities satisfy UPDATE, and all else stays but m
@@ -72,12 +74,12 @@ pub record Does (list : List ℕ) (s : State) (p : Pick) (t : State) : Type 0 wh
 
 abbrev pub StepDoes : Seven → Type 0
 StepDoes bench =
-    (list : List ℕ) (s : State) (log : List ℕ) (p : Pick) → Held s → bench .step list s log p .number ≡ 0
-    → Does list s p (bench .step list s log p .state)
-    × (bench .step list s log p .log ≡ written log (2 * (s .n + s .m)) (pick-bytes p))
+    (list : List ℕ) (s : State) (lent : Lent) (p : Pick) → Held s → bench .step list s lent p .number ≡ 0
+    → Does list s p (bench .step list s lent p .state)
+    × (bench .step list s lent p .lent ≡ with-pick lent s p)
 
 -- UNDO: "the state reached by replaying the first n+m-1 records"; whatever state is given, it depends on no more of it than B and m
 abbrev pub UndoReplays : Seven → Type 0
 UndoReplays bench =
-    (list : List ℕ) (s : State) (log : List ℕ) → bench .undo list s log .number ≡ 0
-    → bench .undo list s log .state ≡ replayed list log (s .b) (s .m) .state
+    (list : List ℕ) (s : State) (lent : Lent) → bench .undo list s lent .number ≡ 0
+    → bench .undo list s lent .state ≡ replayed list (lent .log) (s .b) (s .m) .state

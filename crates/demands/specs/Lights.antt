@@ -8,6 +8,7 @@ use mathlib.Core.Option.{some}
 use Prim.Native.Nat.{ℕ, _≤_, _<_}
 use Rattle.rules.specs.Records.{Pick}
 use Rattle.rules.specs.State.{State}
+use Rattle.rules.specs.Lent.{Lent}
 use Rattle.rules.specs.Ready.{waiting}
 use Rattle.rules.specs.Lights.{Lights}
 use Rattle.rules.specs.Calls.{Seven}
@@ -19,8 +20,8 @@ use Rattle.history.specs.Back.{below}
 -- the stations in turn are those of which a step with an allowed reset is taken
 abbrev pub InTurn : Seven → Type 0
 InTurn bench =
-    (list : List ℕ) (s : State) (log : List ℕ) (p : Pick) → CanStep list s log → p .reset ≤ s .b
-    → (bit (bench .lights list s .in-turn) (p .station) ≡ true) ↔ (bench .step list s log p .number ≡ 0)
+    (list : List ℕ) (s : State) (lent : Lent) (p : Pick) → CanStep list s lent → p .reset ≤ s .b
+    → (bit (bench .lights list s .in-turn) (p .station) ≡ true) ↔ (bench .step list s lent p .number ≡ 0)
 
 -- an answer that is not refused and shows the state
 abbrev pub Lit : List ℕ → State → Lights → Type 0
@@ -31,11 +32,11 @@ Lit list s a = (a .number ≡ 0) × Shows list s a
 -- as writing none
 pub record Fresh (bench : Seven) (list : List ℕ) (now : Now) (steps : Steps) : Type 0 where
   pub lit : Lit list (now .state) (bench .lights list (now .state))
-  pub lit-undone : Lit list (below steps .state) (bench .lights list (bench .undo list (now .state) (now .log) .state))
+  pub lit-undone : Lit list (below steps .state) (bench .lights list (bench .undo list (now .state) (now .lent) .state))
   pub waits-undone : (j : ℕ) → j < below steps .state .n → waiting list (below steps .state) j ≡ true
-      → LitAsWaiting list (below steps .state) (bench .lights list (bench .undo list (now .state) (now .log) .state)) j
+      → LitAsWaiting list (below steps .state) (bench .lights list (bench .undo list (now .state) (now .lent) .state)) j
 
 abbrev pub LightsFresh : Seven → Type 0
 LightsFresh bench =
-    (list : List ℕ) (s : State) (log : List ℕ) (calls : List Call) (steps : Steps)
-    → history bench list s log calls .standing ≡ some steps → Fresh bench list (history bench list s log calls) steps
+    (list : List ℕ) (s : State) (lent : Lent) (calls : List Call) (steps : Steps)
+    → history bench list s lent calls .standing ≡ some steps → Fresh bench list (history bench list s lent calls) steps

@@ -5,6 +5,7 @@ use mathlib.Core.List.{List}
 use Prim.Native.Nat.{ℕ}
 use Rattle.rules.specs.Records.{Pick}
 use Rattle.rules.specs.State.{State}
+use Rattle.rules.specs.Lent.{Lent}
 use Rattle.rules.specs.Calls.{Seven, ruled}
 use Rattle.fair.specs.Sound.{Held}
 use Rattle.demands.specs.Demands.{Demand1, Demand2, Demands}
@@ -13,11 +14,11 @@ use Rattle.demands.specs.Demands.{Demand1, Demand2, Demands}
 pub record Equal (Of : State → Type 0) (bench : Seven) : Type 0 where
   pub check : (file : List ℕ) → bench .check file ≡ ruled .check file
   pub build : (file buffer : List ℕ) → bench .build file buffer ≡ ruled .build file buffer
-  pub start : (list : List ℕ) (b : ℕ) (resets log : List ℕ) → bench .start list b resets log ≡ ruled .start list b resets log
-  pub step : (list : List ℕ) (s : State) (log : List ℕ) (p : Pick) → Of s → bench .step list s log p ≡ ruled .step list s log p
-  pub run : (list : List ℕ) (s : State) (log picks : List ℕ) (most : ℕ) → Of s
-      → bench .run list s log picks most ≡ ruled .run list s log picks most
-  pub undo : (list : List ℕ) (s : State) (log : List ℕ) → bench .undo list s log ≡ ruled .undo list s log
+  pub start : (list : List ℕ) (b : ℕ) (resets : List ℕ) (lent : Lent) → bench .start list b resets lent ≡ ruled .start list b resets lent
+  pub step : (list : List ℕ) (s : State) (lent : Lent) (p : Pick) → Of s → bench .step list s lent p ≡ ruled .step list s lent p
+  pub run : (list : List ℕ) (s : State) (lent : Lent) (picks : List ℕ) (most : ℕ) → Of s
+      → bench .run list s lent picks most ≡ ruled .run list s lent picks most
+  pub undo : (list : List ℕ) (s : State) (lent : Lent) → bench .undo list s lent ≡ ruled .undo list s lent
   pub lights : (list : List ℕ) (s : State) → bench .lights list s ≡ ruled .lights list s
 
 -- what holds of the rules' calls holds of any that equal them

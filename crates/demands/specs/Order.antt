@@ -15,6 +15,7 @@ use Rattle.rules.specs.Check.{kinds, wrong-length, field-place, station-count, 
 use Rattle.rules.specs.Build.{list-records}
 use Rattle.rules.specs.List.{stations, sound-list}
 use Rattle.rules.specs.State.{State, zeros, sound-state}
+use Rattle.rules.specs.Lent.{Lent}
 use Rattle.rules.specs.Start.{wrong-resets}
 use Rattle.rules.specs.Ready.{ended, waiting, lowest}
 use Rattle.rules.specs.Undo.{starts-right, replayed}
@@ -59,22 +60,22 @@ BuildOrder bench =
 -- start: 7, 13, 6
 abbrev pub StartOrder : Seven → Type 0
 StartOrder bench =
-    (list : List ℕ) (b : ℕ) (resets log : List ℕ)
-    → bench .start list b resets log .number
+    (list : List ℕ) (b : ℕ) (resets : List ℕ) (lent : Lent)
+    → bench .start list b resets lent .number
     ≡ (if not (sound-list list) then 7
     else if wrong-resets list b resets then 13
-    else if ltb (length log) (2 * stations list) then 6
+    else if ltb (length (lent .log)) (2 * stations list) then 6
     else 0)
 
 -- step: 7, 8, 9, 6, 10, 16, 11, 12, 13
 abbrev pub StepOrder : Seven → Type 0
 StepOrder bench =
-    (list : List ℕ) (s : State) (log : List ℕ) (p : Pick)
-    → bench .step list s log p .number
+    (list : List ℕ) (s : State) (lent : Lent) (p : Pick)
+    → bench .step list s lent p .number
     ≡ (if not (sound-list list) then 7
     else if not (sound-state list s) then 8
     else if eqb (s .m) 4096 then 9
-    else if ltb (length log) (2 * (s .n + s .m + 1)) then 6
+    else if ltb (length (lent .log)) (2 * (s .n + s .m + 1)) then 6
     else if leb (s .n) (p .station) then 10
     else if ended list s (p .station) then 16
     else if waiting list s (p .station) then 11
@@ -93,14 +94,14 @@ before-steps list s picks =
 -- undo: 7, 8, 14, 15
 abbrev pub UndoOrder : Seven → Type 0
 UndoOrder bench =
-    (list : List ℕ) (s : State) (log : List ℕ)
-    → bench .undo list s log .number
+    (list : List ℕ) (s : State) (lent : Lent)
+    → bench .undo list s lent .number
     ≡ (if not (sound-list list) then 7
     else if not (sound-state list s) then 8
     else if eqb (s .m) 0 then 14
-    else if ltb (length log) (2 * (s .n + s .m)) then 15
-    else if not (starts-right list (s .b) log) then 15
-    else if not (eqb (replayed list log (s .b) (s .m) .number) 0) then 15
+    else if ltb (length (lent .log)) (2 * (s .n + s .m)) then 15
+    else if not (starts-right list (s .b) (lent .log)) then 15
+    else if not (eqb (replayed list (lent .log) (s .b) (s .m) .number) 0) then 15
     else 0)
 
 -- lights: 7, 8
@@ -113,11 +114,11 @@ LightsOrder bench =
 pub record RefusalLeaves (bench : Seven) : Type 0 where
   pub by-build : (file buffer : List ℕ) → bench .build file buffer .number ≢ 0
       → (bench .build file buffer .buffer ≡ buffer) × (bench .build file buffer .count ≡ 0)
-  pub by-start : (list : List ℕ) (b : ℕ) (resets log : List ℕ) → bench .start list b resets log .number ≢ 0
-      → (bench .start list b resets log .state ≡ zeros) × (bench .start list b resets log .log ≡ log)
-  pub by-step : (list : List ℕ) (s : State) (log : List ℕ) (p : Pick) → bench .step list s log p .number ≢ 0
-      → (bench .step list s log p .state ≡ s) × (bench .step list s log p .log ≡ log)
-  pub by-undo : (list : List ℕ) (s : State) (log : List ℕ) → bench .undo list s log .number ≢ 0 → bench .undo list s log .state ≡ s
+  pub by-start : (list : List ℕ) (b : ℕ) (resets : List ℕ) (lent : Lent) → bench .start list b resets lent .number ≢ 0
+      → (bench .start list b resets lent .state ≡ zeros) × (bench .start list b resets lent .lent ≡ lent)
+  pub by-step : (list : List ℕ) (s : State) (lent : Lent) (p : Pick) → bench .step list s lent p .number ≢ 0
+      → (bench .step list s lent p .state ≡ s) × (bench .step list s lent p .lent ≡ lent)
+  pub by-undo : (list : List ℕ) (s : State) (lent : Lent) → bench .undo list s lent .number ≢ 0 → bench .undo list s lent .state ≡ s
   pub by-lights : (list : List ℕ) (s : State) → bench .lights list s .number ≢ 0
       → (bench .lights list s .ready ≡ 0) × (bench .lights list s .in-turn ≡ 0) × (bench .lights list s .waiting ≡ 0)
       × (bench .lights list s .ended ≡ 0) × (bench .lights list s .rows ≡ dark ∷ dark ∷ [])

@@ -12,6 +12,7 @@ use Rattle.rules.specs.Records.{Record, records, Pick}
 use Rattle.rules.specs.Trees.{Statements, initial-part, stations-of}
 use Rattle.rules.specs.Build.{list-records}
 use Rattle.rules.specs.State.{State, priority}
+use Rattle.rules.specs.Lent.{Lent}
 use Rattle.rules.specs.Calls.{Seven}
 use Rattle.rules.specs.History.{Call, Steps, history}
 use Rattle.reading.specs.Reading.{flat-file, Sets, Stations}
@@ -39,15 +40,15 @@ pub record Laid (file : List ℕ) : Type 0 where
 -- with a reset of at most B for each station, and room in the log, its list is started
 abbrev pub StartThere : Seven → List ℕ → Type 0
 StartThere bench file =
-    (b : ℕ) (resets log : List ℕ) → length resets ≡ length (stations-of file)
+    (b : ℕ) (resets : List ℕ) (lent : Lent) → length resets ≡ length (stations-of file)
     → ((j : ℕ) → j < length (stations-of file) → getD resets j 0 ≤ b)
-    → 2 * length (stations-of file) ≤ length log → bench .start (built file) b resets log .number ≡ 0
+    → 2 * length (stations-of file) ≤ length (lent .log) → bench .start (built file) b resets lent .number ≡ 0
 
 -- and then the initial part has been run from zeros, the stations are whole, and the priorities are the resets
 abbrev pub FileStarts : Seven → List ℕ → Type 0
 FileStarts bench file =
-    (b : ℕ) (resets log : List ℕ) → bench .start (built file) b resets log .number ≡ 0
-    → Starts file resets (bench .start (built file) b resets log .state)
+    (b : ℕ) (resets : List ℕ) (lent : Lent) → bench .start (built file) b resets lent .number ≡ 0
+    → Starts file resets (bench .start (built file) b resets lent .state)
 
 -- a transition of the written sequence, the pick's station active, which the pick order and the reset allow: no enabled component has a
 -- lower priority number
@@ -57,10 +58,10 @@ pub record Allowed (file : List ℕ) (s : State) (p : Pick) (Ss : List Program) 
   pub reset : p .reset ≤ s .b
 
 -- there is such a transition exactly when STEP answers 0, and then the state after is it
-pub record StepIs (bench : Seven) (file : List ℕ) (s : State) (log : List ℕ) (p : Pick) : Type 0 where
-  pub exactly-when : (bench .step (built file) s log p .number ≡ 0) ↔ ((Ss : List Program) × (τ : List ℕ) × Allowed file s p Ss τ)
+pub record StepIs (bench : Seven) (file : List ℕ) (s : State) (lent : Lent) (p : Pick) : Type 0 where
+  pub exactly-when : (bench .step (built file) s lent p .number ≡ 0) ↔ ((Ss : List Program) × (τ : List ℕ) × Allowed file s p Ss τ)
   pub is-it : (Ss : List Program) (τ : List ℕ) → Allowed file s p Ss τ
-      → (Ss ≡ programs file (bench .step (built file) s log p .state)) × (τ ≡ bench .step (built file) s log p .state .vars)
+      → (Ss ≡ programs file (bench .step (built file) s lent p .state)) × (τ ≡ bench .step (built file) s lent p .state .vars)
 
 pub record AsWritten (bench : Seven) (file : List ℕ) : Type 0 where
   -- the file has a reading, and no other
@@ -79,7 +80,7 @@ pub record AsWritten (bench : Seven) (file : List ℕ) : Type 0 where
   pub ready-enabled : ReadyEnabled file
   pub station-moves : StationMoves file
   -- a step is that step of the written sequence
-  pub step-is : (s : State) (log : List ℕ) (p : Pick) → CanStep (built file) s log → StepIs bench file s log p
+  pub step-is : (s : State) (lent : Lent) (p : Pick) → CanStep (built file) s lent → StepIs bench file s lent p
   -- the standing steps of any history are a computation of the program, whose run FAIR checks at every position
-  pub computes : (s : State) (log : List ℕ) (calls : List Call) (steps : Steps)
-      → history bench (built file) s log calls .standing ≡ some steps → Computation file steps
+  pub computes : (s : State) (lent : Lent) (calls : List Call) (steps : Steps)
+      → history bench (built file) s lent calls .standing ≡ some steps → Computation file steps

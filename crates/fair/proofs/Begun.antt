@@ -82,9 +82,9 @@ module _ (list : List ℕ) (b : ℕ) (resets : List ℕ) where
       }
 
 pub start-sound : StartSound
-start-sound list b resets log h =
-    let can = start-can list b resets log h in
-    rw (start-state list b resets log h) (
+start-sound list b resets lent h =
+    let can = start-can list b resets lent h in
+    rw (start-state list b resets lent h) (
       sound-means list (started list b resets) .1 (started-sound list b resets (can .of-list) (can .count) (can .within)),
       started-held list b resets (can .of-list) (can .count),
     )

@@ -68,6 +68,6 @@ no-deadlock list s j l r =
     (i, c .station, c .enabled, lowest-means list s i .1 (c .lowest))
 
 pub step-there : StepThere ruled
-step-there list s log can j l r =
+step-there list s lent can j l r =
     let (i, c) = picked (ready list s) (priority s) (s .n) j l r in
-    (i, step-taken list s log (record { station = i; reset = 0 }) .1 (can, c, zero-le))
+    (i, step-taken list s lent (record { station = i; reset = 0 }) .1 (can, c, zero-le))

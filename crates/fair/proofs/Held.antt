@@ -56,10 +56,10 @@ stepped-held list s p h =
     }
 
 pub step-held : StepHeld
-step-held list s log p h =
-    by-test (eqb (step list s log p .number) 0)
-    (λ e. rw (step-state list s log p (eqb-true _ 0 e)) (stepped-held list s p h))
-    (λ e. rw (step-refused list s log p e) h)
+step-held list s lent p h =
+    by-test (eqb (step list s lent p .number) 0)
+    (λ e. rw (step-state list s lent p (eqb-true _ 0 e)) (stepped-held list s p h))
+    (λ e. rw (step-refused list s lent p e) h)
 
 pub started-held : (list : List ℕ) (b : ℕ) (resets : List ℕ) → sound-list list ≡ true → length resets ≡ stations list
     → Held (started list b resets)

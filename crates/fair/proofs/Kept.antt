@@ -80,12 +80,12 @@ picked-sound list s p known m =
     (λ e. rw (picked-leaves list s p e) (known .of-state))
 
 pub step-sound : StepSound
-step-sound list s log p h =
-    by-test (eqb (step list s log p .number) 0)
+step-sound list s lent p h =
+    by-test (eqb (step list s lent p .number) 0)
     (λ e.
     let n = eqb-true _ 0 e in
-    let (can, c, r) = step-taken list s log p .0 n in
-    rw (step-state list s log p n)
+    let (can, c, r) = step-taken list s lent p .0 n in
+    rw (step-state list s lent p n)
     (sound-means list (stepped list s p) .1
     (stepped-sound list s p (can .of-list) (sound-means list s .0 h) c r (can .steps-left))))
-    (λ e. rw (step-refused list s log p e) h)
+    (λ e. rw (step-refused list s lent p e) h)

@@ -40,11 +40,11 @@ module _ (list : List ℕ) (s : State) (p : Pick) (long : s .n ≤ length (s .pr
       }
 
 pub step-fair : StepFair ruled
-step-fair list s log p held h =
-    let (can, c, r) = step-taken list s log p .0 h in
+step-fair list s lent p held h =
+    let (can, c, r) = step-taken list s lent p .0 h in
     let long : s .n ≤ length (s .priorities) =
     omega (arith, held .priorities, few-stations list (can .of-list), sound-means list s .0 (can .of-state) .of-list) in
-    rw (step-state list s log p h) (c, updated list s p long (c .station) r)
+    rw (step-state list s lent p h) (c, updated list s p long (c .station) r)
 
 pub update-only : UpdateOnly
 update-only n ready b z x y i reset u v j l =

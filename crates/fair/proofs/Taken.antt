@@ -29,8 +29,8 @@ pick-allowed list s p = (
 )
 
 pub step-taken : StepTaken ruled
-step-taken list s log p =
+step-taken list s lent p =
     let pick = pick-allowed list s p in (
-      λ h. let (can, picks) = step-can list s log p h in let (chosen, within) = pick .0 picks in (can, chosen, within),
-      λ h. step-number list s log p ∙ step-passed list s log p .1 (h .0, pick .1 (h .1, h .2)),
+      λ h. let (can, picks) = step-can list s lent p h in let (chosen, within) = pick .0 picks in (can, chosen, within),
+      λ h. step-number list s lent p ∙ step-passed list s lent p .1 (h .0, pick .1 (h .1, h .2)),
     )

@@ -55,13 +55,13 @@ restarted-sound list log b of-list right =
 
 pub undo-sound : UndoSound
 unfolding replayed started
-undo-sound list s log h =
-    by-test (eqb (undo list s log .number) 0)
+undo-sound list s lent h =
+    by-test (eqb (undo list s lent .number) 0)
     (λ e.
     let n = eqb-true _ 0 e in
-    let can = undo-can list s log n .before in
+    let can = undo-can list s lent n .before in
     let few = sound-means list s .0 h .few-steps in
-    rw (undo-state list s log n)
-    (replay-sound list log (stations list) (s .m - 1) _
-    (record { of-list = can .of-list; of-state = restarted-sound list log (s .b) (can .of-list) (can .starts) }) (omega arith)))
-    (λ e. rw (undo-refused list s log e) h)
+    rw (undo-state list s lent n)
+    (replay-sound list (lent .log) (stations list) (s .m - 1) _
+    (record { of-list = can .of-list; of-state = restarted-sound list (lent .log) (s .b) (can .of-list) (can .starts) }) (omega arith)))
+    (λ e. rw (undo-refused list s lent e) h)

@@ -6,6 +6,7 @@ use Prim.Native.Nat.{ℕ, _<_}
 use lib.IntN.{ℤ}
 use Rattle.rules.specs.Records.{Pick}
 use Rattle.rules.specs.State.{State, priority}
+use Rattle.rules.specs.Lent.{Lent}
 use Rattle.rules.specs.Ready.{ready}
 use Rattle.rules.specs.Calls.{Seven}
 use Rattle.fair.specs.Fair.{Sch, Update}
@@ -14,9 +15,9 @@ use Rattle.fair.specs.Sound.{Held}
 -- every step taken is one of FAIR's: its station satisfies SCH, and the numbers before and after satisfy UPDATE
 abbrev pub StepFair : Seven → Type 0
 StepFair bench =
-    (list : List ℕ) (s : State) (log : List ℕ) (p : Pick) → Held s → bench .step list s log p .number ≡ 0
+    (list : List ℕ) (s : State) (lent : Lent) (p : Pick) → Held s → bench .step list s lent p .number ≡ 0
     → Sch (s .n) (ready list s) (priority s) (p .station)
-    × Update (s .n) (ready list s) (s .b) (priority s) (priority (bench .step list s log p .state)) (p .station) (p .reset)
+    × Update (s .n) (ready list s) (s .b) (priority s) (priority (bench .step list s lent p .state)) (p .station) (p .reset)
 
 -- UPDATE leaves one number to each station
 abbrev pub UpdateOnly : Type 0

@@ -8,6 +8,7 @@ use lib.ListN.{length}
 use Rattle.rules.specs.Names.{variables, max-stations}
 use Rattle.rules.specs.Records.{Pick}
 use Rattle.rules.specs.State.{State, sound-state}
+use Rattle.rules.specs.Lent.{Lent}
 use Rattle.rules.specs.Start.{start}
 use Rattle.rules.specs.Step.{step}
 use Rattle.rules.specs.Undo.{undo}
@@ -21,17 +22,17 @@ pub record Held (s : State) : Type 0 where
 -- taken or refused, a step answers a sound state
 abbrev pub StepSound : Type 0
 StepSound =
-    (list : List ℕ) (s : State) (log : List ℕ) (p : Pick) → sound-state list s ≡ true → sound-state list (step list s log p .state) ≡ true
+    (list : List ℕ) (s : State) (lent : Lent) (p : Pick) → sound-state list s ≡ true → sound-state list (step list s lent p .state) ≡ true
 
 abbrev pub StepHeld : Type 0
-StepHeld = (list : List ℕ) (s : State) (log : List ℕ) (p : Pick) → Held s → Held (step list s log p .state)
+StepHeld = (list : List ℕ) (s : State) (lent : Lent) (p : Pick) → Held s → Held (step list s lent p .state)
 
 -- a start that is not refused
 abbrev pub StartSound : Type 0
 StartSound =
-    (list : List ℕ) (b : ℕ) (resets log : List ℕ) → start list b resets log .number ≡ 0
-    → (sound-state list (start list b resets log .state) ≡ true) × Held (start list b resets log .state)
+    (list : List ℕ) (b : ℕ) (resets : List ℕ) (lent : Lent) → start list b resets lent .number ≡ 0
+    → (sound-state list (start list b resets lent .state) ≡ true) × Held (start list b resets lent .state)
 
 -- and an undo, taken or refused
 abbrev pub UndoSound : Type 0
-UndoSound = (list : List ℕ) (s : State) (log : List ℕ) → sound-state list s ≡ true → sound-state list (undo list s log .state) ≡ true
+UndoSound = (list : List ℕ) (s : State) (lent : Lent) → sound-state list s ≡ true → sound-state list (undo list s lent .state) ≡ true

@@ -20,6 +20,7 @@ use Rattle.rules.specs.Trees.{parts-of, stations-of, leading-sets, initial-part
 use Rattle.rules.specs.Build.{laid, inits, bodies, list-of, bytes-of, Built, build}
 use Rattle.rules.specs.List.{stations, initials-after, is-at, init-right, initial-right, outside-targets, inside-target, inside-targets, later-right, sound-list}
 use Rattle.rules.specs.State.{State, zeros, priority, few-low, empty-at, sound-state}
+use Rattle.rules.specs.Lent.{Lent}
 use Rattle.rules.specs.Values.{set-value, holds}
 use Rattle.rules.specs.Start.{initial-run, started, start-records, Started, start}
 use Rattle.rules.specs.Ready.{readiness-at, readiness, ended, waiting, ready, lowest}
@@ -92,17 +93,17 @@ abbrev pick : ℕ → ℕ → Pick
 pick station reset = record { station = station; reset = reset }
 
 -- a log with room whose bytes are none that a call writes; after the start, and after one step and two
-abbrev junk : List ℕ
-junk = replicate 8 9
+abbrev junk : Lent
+junk = record { log = replicate 8 9 }
 
-abbrev l₀ : List ℕ
-l₀ = 0 ∷ 0 ∷ 1 ∷ 0 ∷ 9 ∷ 9 ∷ 9 ∷ 9 ∷ []
+abbrev l₀ : Lent
+l₀ = record { log = 0 ∷ 0 ∷ 1 ∷ 0 ∷ 9 ∷ 9 ∷ 9 ∷ 9 ∷ [] }
 
-abbrev l₁ : List ℕ
-l₁ = 0 ∷ 0 ∷ 1 ∷ 0 ∷ 0 ∷ 1 ∷ 9 ∷ 9 ∷ []
+abbrev l₁ : Lent
+l₁ = record { log = 0 ∷ 0 ∷ 1 ∷ 0 ∷ 0 ∷ 1 ∷ 9 ∷ 9 ∷ [] }
 
-abbrev l₂ : List ℕ
-l₂ = 0 ∷ 0 ∷ 1 ∷ 0 ∷ 0 ∷ 1 ∷ 1 ∷ 0 ∷ []
+abbrev l₂ : Lent
+l₂ = record { log = 0 ∷ 0 ∷ 1 ∷ 0 ∷ 0 ∷ 1 ∷ 1 ∷ 0 ∷ [] }
 
 abbrev resets : List ℕ
 resets = 0 ∷ 0 ∷ []
@@ -122,28 +123,28 @@ t₂ = taken t₁ (pick 1 0) s₂
 
 -- and so how things are
 abbrev fresh : Now
-fresh = record { state = zeros; log = junk; standing = none }
+fresh = record { state = zeros; lent = junk; standing = none }
 
 abbrev n₀ : Now
-n₀ = record { state = s₀; log = l₀; standing = some t₀ }
+n₀ = record { state = s₀; lent = l₀; standing = some t₀ }
 
 abbrev n₁ : Now
-n₁ = record { state = s₁; log = l₁; standing = some t₁ }
+n₁ = record { state = s₁; lent = l₁; standing = some t₁ }
 
 abbrev n₂ : Now
-n₂ = record { state = s₂; log = l₂; standing = some t₂ }
+n₂ = record { state = s₂; lent = l₂; standing = some t₂ }
 
 abbrev calls : List Call
 calls = START 1 resets ∷ STEP (pick 0 1) ∷ []
 
 -- what the rules answer
 record Computed : Type 0 where
-  begins : start list 1 resets junk ≡ record { number = 0; state = s₀; log = l₀ }
+  begins : start list 1 resets junk ≡ record { number = 0; state = s₀; lent = l₀ }
   begins-0 : start list 0 resets junk .number ≡ 0
-  first-step : step list s₀ l₀ (pick 0 1) ≡ record { number = 0; state = s₁; log = l₁ }
-  second-step : step list s₁ l₁ (pick 1 0) ≡ record { number = 0; state = s₂; log = l₂ }
-  one-run : run list s₀ l₀ picks 1 ≡ record { number = 0; state = s₁; steps = 1; log = l₁ }
-  both-run : run list s₀ l₀ picks 5 ≡ record { number = 0; state = s₂; steps = 2; log = l₂ }
+  first-step : step list s₀ l₀ (pick 0 1) ≡ record { number = 0; state = s₁; lent = l₁ }
+  second-step : step list s₁ l₁ (pick 1 0) ≡ record { number = 0; state = s₂; lent = l₂ }
+  one-run : run list s₀ l₀ picks 1 ≡ record { number = 0; state = s₁; steps = 1; lent = l₁ }
+  both-run : run list s₀ l₀ picks 5 ≡ record { number = 0; state = s₂; steps = 2; lent = l₂ }
   before : before-steps list s₀ picks ≡ 0
   lit-0 : lights list s₀ .number ≡ 0
   ready-0 : lights list s₀ .ready ≡ 1
@@ -202,21 +203,21 @@ apart e d = d (ap (λ (u : State). u .m) e)
 
 -- what calls that meet demand 2 answer there
 module _ (bench : Seven) (two : Demand2 bench) where
-  begins : bench .start list 1 resets junk ≡ record { number = 0; state = s₀; log = l₀ }
+  begins : bench .start list 1 resets junk ≡ record { number = 0; state = s₀; lent = l₀ }
   begins = start-same bench two list 1 resets junk (ap (λ (a : Started). a .number) (computed .begins)) ∙ computed .begins
 
-  first-step : bench .step list s₀ l₀ (pick 0 1) ≡ record { number = 0; state = s₁; log = l₁ }
+  first-step : bench .step list s₀ l₀ (pick 0 1) ≡ record { number = 0; state = s₁; lent = l₁ }
   first-step =
       step-same bench two list s₀ l₀ (pick 0 1) (held 0 2 4 0 (pos 0)) (ap (λ (a : Stepped). a .number) (computed .first-step)) ∙ computed .first-step
 
-  second-step : bench .step list s₁ l₁ (pick 1 0) ≡ record { number = 0; state = s₂; log = l₂ }
+  second-step : bench .step list s₁ l₁ (pick 1 0) ≡ record { number = 0; state = s₂; lent = l₂ }
   second-step =
       step-same bench two list s₁ l₁ (pick 1 0) (held 1 3 4 1 (pos 1)) (ap (λ (a : Stepped). a .number) (computed .second-step)) ∙ computed .second-step
 
-  one-run : bench .run list s₀ l₀ picks 1 ≡ record { number = 0; state = s₁; steps = 1; log = l₁ }
+  one-run : bench .run list s₀ l₀ picks 1 ≡ record { number = 0; state = s₁; steps = 1; lent = l₁ }
   one-run = run-same bench two list s₀ l₀ picks 1 (held 0 2 4 0 (pos 0)) (ap (λ (a : Ran). a .number) (computed .one-run)) ∙ computed .one-run
 
-  both-run : bench .run list s₀ l₀ picks 5 ≡ record { number = 0; state = s₂; steps = 2; log = l₂ }
+  both-run : bench .run list s₀ l₀ picks 5 ≡ record { number = 0; state = s₂; steps = 2; lent = l₂ }
   both-run = run-same bench two list s₀ l₀ picks 5 (held 0 2 4 0 (pos 0)) (ap (λ (a : Ran). a .number) (computed .both-run)) ∙ computed .both-run
 
   -- a start, one step, and two; and one step back
@@ -253,11 +254,11 @@ module _ (bench : Seven) (two : Demand2 bench) where
   back-twice : bench .undo list s₂ l₂ ≡ record { number = 0; state = s₁ }
   back-twice = rw after-two at (two .undo-below list zeros junk (calls ++ (STEP (pick 1 0) ∷ [])) t₂ (rw after-two) .undone)
 
-  gone-back : goes UNDO n₁ ≡ record { state = s₀; log = l₁; standing = some t₀ }
+  gone-back : goes UNDO n₁ ≡ record { state = s₀; lent = l₁; standing = some t₀ }
   unfolding goes called
   gone-back = rw back-once
 
-  after-back : history bench list zeros junk (calls ++ (UNDO ∷ [])) ≡ record { state = s₀; log = l₁; standing = some t₀ }
+  after-back : history bench list zeros junk (calls ++ (UNDO ∷ [])) ≡ record { state = s₀; lent = l₁; standing = some t₀ }
   unfolding goes calls-from
   after-back = ap (goes UNDO) after-one ∙ gone-back
 
@@ -303,18 +304,18 @@ module _ (bench : Seven) (two : Demand2 bench) where
       omega (arith, sym (computed .written-0) ∙ written ∙ computed .written-1)
 
   -- each single step is one step more
-  counted : {list picks : List ℕ} {s : State} {log : List ℕ} {k : ℕ} {t : State} {left : List ℕ} → Held s → Singles bench list picks s log k t left
+  counted : {list picks : List ℕ} {s : State} {lent : Lent} {k : ℕ} {t : State} {left : Lent} → Held s → Singles bench list picks s lent k t left
       → t .m ≡ s .m + k
   counted h Singles.none = omega arith
   counted {list} {picks} h (one-more {k} {t} {left} x e) =
       let there = singles-ruled bench two h x .1 in
       omega (arith, counted h x, two .step-does list t left (pick-at picks k) there e .0 .m-is)
 
-  invents : (list : List ℕ) (s : State) (log picks : List ℕ) (most k : ℕ) → Held s
-      → Singles bench list picks s log k (bench .run list s log picks most .state) (bench .run list s log picks most .log)
-      → bench .run list s log picks most .steps ≢ k → ⊥
-  invents list s log picks most k h x other =
-      let r = two .run-stops list s log picks most in
+  invents : (list : List ℕ) (s : State) (lent : Lent) (picks : List ℕ) (most k : ℕ) → Held s
+      → Singles bench list picks s lent k (bench .run list s lent picks most .state) (bench .run list s lent picks most .lent)
+      → bench .run list s lent picks most .steps ≢ k → ⊥
+  invents list s lent picks most k h x other =
+      let r = two .run-stops list s lent picks most in
       let c = counted h x in
       by-test (eqb (before-steps list s picks) 0)
       (λ e. other (omega (arith, c, counted h (r .stops (eqb-true _ 0 e) .singles))))
@@ -323,10 +324,10 @@ module _ (bench : Seven) (two : Demand2 bench) where
       other (omega (arith, c, ap (λ (a : Ran). a .steps) first, ap (λ (a : Ran). a .state .m) first)))
 
   -- a station that was not ready keeps its number
-  stays : (list : List ℕ) (s : State) (log : List ℕ) (p : Pick) → Held s → bench .step list s log p .number ≡ 0
-      → (j : ℕ) → j < s .n → ready list s j ≡ false → priority (bench .step list s log p .state) j ≡ priority s j
-  stays list s log p h e j l r =
-      let d = two .step-does list s log p h e .0 in
+  stays : (list : List ℕ) (s : State) (lent : Lent) (p : Pick) → Held s → bench .step list s lent p .number ≡ 0
+      → (j : ℕ) → j < s .n → ready list s j ≡ false → priority (bench .step list s lent p .state) j ≡ priority s j
+  stays list s lent p h e j l r =
+      let d = two .step-does list s lent p h e .0 in
       d .priorities .stays j l (λ same. false≢true (sym r ∙ rw same (d .chosen .enabled))) r
 
 not-ready : (list : List ℕ) (s : State) (j : ℕ) → j < s .n → waiting list s j ≡ true → ready list s j ≡ false
@@ -371,13 +372,13 @@ by-demand-2 bench two =
           sym (ready-0 bench two) ∙ ap (λ (a : Lights). a .ready) (h list s₀ (number-0 bench two) ∙ sym (h list s₁ (number-1 bench two))) ∙ ready-1 bench two in
           omega (arith, e);
       start-writes-nothing = λ h.
-          let e : _≡_ {A = ℕ} 9 0 = ap (λ (l : List ℕ). getD l 0 0) (sym (h list 1 resets junk) ∙ ap (λ (a : Started). a .log) starts) in
+          let e : _≡_ {A = ℕ} 9 0 = ap (λ (l : Lent). getD (l .log) 0 0) (sym (h list 1 resets junk) ∙ ap (λ (a : Started). a .lent) starts) in
           omega (arith, e);
       step-writes-nothing = λ h.
-          let e : _≡_ {A = ℕ} 9 0 = ap (λ (l : List ℕ). getD l 4 0) (sym (h list s₀ l₀ (pick 0 1)) ∙ ap (λ (a : Stepped). a .log) first) in
+          let e : _≡_ {A = ℕ} 9 0 = ap (λ (l : Lent). getD (l .log) 4 0) (sym (h list s₀ l₀ (pick 0 1)) ∙ ap (λ (a : Stepped). a .lent) first) in
           omega (arith, e);
       run-writes-nothing = λ h.
-          let e : _≡_ {A = ℕ} 9 0 = ap (λ (l : List ℕ). getD l 4 0) (sym (h list s₀ l₀ picks 5) ∙ ap (λ (a : Ran). a .log) (both-run bench two)) in
+          let e : _≡_ {A = ℕ} 9 0 = ap (λ (l : Lent). getD (l .log) 4 0) (sym (h list s₀ l₀ picks 5) ∙ ap (λ (a : Ran). a .lent) (both-run bench two)) in
           omega (arith, e);
       step-only-m = λ h.
           let e : _≡_ {A = ℕ} 1 2 = ap (λ (s : State). getD (s .vars) 0 0)
@@ -404,16 +405,16 @@ by-demand-2 bench two =
       waiting-reads = λ list s answered j l w v within lit other. other (two .waiting-lit list s answered j l w .reads-condition v within .0 lit);
       waiting-misses = λ list s answered j l w v within dark asks.
           false≢true (sym dark ∙ two .waiting-lit list s answered j l w .reads-condition v within .1 asks);
-      undo-priorities = λ list s log calls steps stands other.
-          other (ap (λ (a : Undone). a .state .priorities) (two .undo-below list s log calls steps stands .undone));
-      waiting-charged = λ list s log p h e j l w other. other (stays bench two list s log p h e j l (not-ready list s j l w));
-      judged-late = λ list s log p h e j l r after other. other (stays bench two list s log p h e j l r);
+      undo-priorities = λ list s lent calls steps stands other.
+          other (ap (λ (a : Undone). a .state .priorities) (two .undo-below list s lent calls steps stands .undone));
+      waiting-charged = λ list s lent p h e j l w other. other (stays bench two list s lent p h e j l (not-ready list s j l w));
+      judged-late = λ list s lent p h e j l r after other. other (stays bench two list s lent p h e j l r);
       ended-untold = λ h. h list s₁ l₁ (pick 0 0) (two .step-tells list s₁ l₁ (pick 0 0) .ended-when .1 (step-tells list s₁ l₁ (pick 0 0) .ended-when .0 (computed .ended-step)));
-      waiting-ended = λ list s log p w h.
-          let t = two .step-tells list s log p in
+      waiting-ended = λ list s lent p w h.
+          let t = two .step-tells list s lent p in
           let e : NOT-READY ≡ ENDED = sym (t .waiting-when .1 (t .ended-when .0 h .0, w)) ∙ h in
           omega (arith, e);
-      another-b = λ list b resets log e other. other (two .start-begins list b resets log e .0 .b-is);
+      another-b = λ list b resets lent e other. other (two .start-begins list b resets lent e .0 .b-is);
     }
 
 pub with-tests : WithTests

@@ -1,3 +1,2 @@
 pub mod Frauds
 pub mod Waiting
-pub mod Witness

@@ -40,7 +40,7 @@ pick = record { station = 0; reset = 0 }
 
 -- a start, and two steps of station 0, before each of which station 1 waits
 abbrev now : Now
-now = history charging (built file) zeros (replicate 8 9) (START 0 (0 ∷ 0 ∷ []) ∷ STEP pick ∷ STEP pick ∷ [])
+now = history charging (built file) zeros (record { log = replicate 8 9 }) (START 0 (0 ∷ 0 ∷ []) ∷ STEP pick ∷ STEP pick ∷ [])
 
 -- what stands, or a start with nothing where nothing does
 abbrev standing : Option Steps → Steps
@@ -61,7 +61,7 @@ computed = record { accepted = accepted-is file .0 refl; stands = refl; two = re
 pub waiting-breaks : WaitingBreaks
 waiting-breaks bounds =
     let w = computed in
-    let few = bounds file (w .accepted) zeros (replicate 8 9) _ (standing (now .standing)) (w .stands) 2 (omega arith) (omega (arith, w .two)) in
+    let few = bounds file (w .accepted) zeros (record { log = replicate 8 9 }) _ (standing (now .standing)) (w .stands) 2 (omega arith) (omega (arith, w .two)) in
     omega (arith, few, w .low, w .two)
 
 idle-stays : (list : List ℕ) (before : Now) (cs : List Call) → calls-from idle list before cs ≡ before
@@ -76,6 +76,6 @@ idle-stays list before (UNDO ∷ cs) = idle-stays list before cs
 idle-stays list before (LIGHTS ∷ cs) = idle-stays list before cs
 
 pub idle-bounds : IdleBounds
-idle-bounds list s log cs steps e =
+idle-bounds list s lent cs steps e =
     let nothing-stands : none ≡ some steps = ap (λ (after : Now). after .standing) (sym (idle-stays list _ cs)) ∙ e in
     absurd (let z : _≡_ {A = ℕ} 0 1 = cc in omega arith)

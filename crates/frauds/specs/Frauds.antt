@@ -14,6 +14,7 @@ use Rattle.rules.specs.Words.{if_then_else_, changed, Answer}
 use Rattle.rules.specs.Names.{LENGTH, LIST, ENDED, variables}
 use Rattle.rules.specs.Records.{Pick, pick-at}
 use Rattle.rules.specs.State.{State, zeros, priority}
+use Rattle.rules.specs.Lent.{Lent}
 use Rattle.rules.specs.Ready.{next-step, ended, waiting, ready}
 use Rattle.rules.specs.Turn.{charged}
 use Rattle.rules.specs.Step.{Stepped, step}
@@ -41,58 +42,58 @@ with-priorities s z = record { vars = s .vars; positions = s .positions; priorit
 -- what is lit after any calls by a program that remembers; that it is what demand 2 asks; and that after an undo some part of it is what it
 -- was before
 abbrev pub Remembering : Type 0
-Remembering = List ℕ → State → List ℕ → List Call → Lights
+Remembering = List ℕ → State → Lent → List Call → Lights
 
 abbrev pub AsAsked : Seven → Remembering → Type 0
 AsAsked bench lit =
-    (list : List ℕ) (s : State) (log : List ℕ) (calls : List Call) (steps : Steps) → history bench list s log calls .standing ≡ some steps
-    → Lit list (history bench list s log calls .state) (lit list s log calls)
+    (list : List ℕ) (s : State) (lent : Lent) (calls : List Call) (steps : Steps) → history bench list s lent calls .standing ≡ some steps
+    → Lit list (history bench list s lent calls .state) (lit list s lent calls)
 
 abbrev pub Keeps : {A : Type 0} → Seven → Remembering → (Lights → A) → Type 0
 Keeps bench lit part =
-    (list : List ℕ) (s : State) (log : List ℕ) (calls : List Call) (steps : Steps) (p : Pick) (t : State)
-    → history bench list s log calls .standing ≡ some (taken steps p t)
-    → part (lit list s log (calls ++ (UNDO ∷ []))) ≡ part (lit list s log calls)
+    (list : List ℕ) (s : State) (lent : Lent) (calls : List Call) (steps : Steps) (p : Pick) (t : State)
+    → history bench list s lent calls .standing ≡ some (taken steps p t)
+    → part (lit list s lent (calls ++ (UNDO ∷ []))) ≡ part (lit list s lent calls)
 
 -- the frauds of the run calls
 pub record ShutOut (bench : Seven) : Type 0 where
   -- "one that refuses always": a RUN, wherever a step is asked for
-  pub start-refuses : ((list : List ℕ) (b : ℕ) (resets log : List ℕ) → bench .start list b resets log .number ≢ 0) → ⊥
-  pub step-refuses : ((list : List ℕ) (s : State) (log : List ℕ) (p : Pick) → bench .step list s log p .number ≢ 0) → ⊥
-  pub run-refuses : ((list : List ℕ) (s : State) (log picks : List ℕ) (most : ℕ) → 1 ≤ most → 1 ≤ length picks / 2
-      → bench .run list s log picks most .number ≢ 0) → ⊥
-  pub undo-refuses : ((list : List ℕ) (s : State) (log : List ℕ) → bench .undo list s log .number ≢ 0) → ⊥
+  pub start-refuses : ((list : List ℕ) (b : ℕ) (resets : List ℕ) (lent : Lent) → bench .start list b resets lent .number ≢ 0) → ⊥
+  pub step-refuses : ((list : List ℕ) (s : State) (lent : Lent) (p : Pick) → bench .step list s lent p .number ≢ 0) → ⊥
+  pub run-refuses : ((list : List ℕ) (s : State) (lent : Lent) (picks : List ℕ) (most : ℕ) → 1 ≤ most → 1 ≤ length picks / 2
+      → bench .run list s lent picks most .number ≢ 0) → ⊥
+  pub undo-refuses : ((list : List ℕ) (s : State) (lent : Lent) → bench .undo list s lent .number ≢ 0) → ⊥
   pub lights-refuses : ((list : List ℕ) (s : State) → bench .lights list s .number ≢ 0) → ⊥
   -- "one with a constant answer": a RUN, wherever it takes a step
   pub start-constant : (t : State)
-      → ((list : List ℕ) (b : ℕ) (resets log : List ℕ) → bench .start list b resets log .number ≡ 0 → bench .start list b resets log .state ≡ t) → ⊥
+      → ((list : List ℕ) (b : ℕ) (resets : List ℕ) (lent : Lent) → bench .start list b resets lent .number ≡ 0 → bench .start list b resets lent .state ≡ t) → ⊥
   pub step-constant : (t : State)
-      → ((list : List ℕ) (s : State) (log : List ℕ) (p : Pick) → bench .step list s log p .number ≡ 0 → bench .step list s log p .state ≡ t) → ⊥
+      → ((list : List ℕ) (s : State) (lent : Lent) (p : Pick) → bench .step list s lent p .number ≡ 0 → bench .step list s lent p .state ≡ t) → ⊥
   pub run-constant : (t : State) (k : ℕ)
-      → ((list : List ℕ) (s : State) (log picks : List ℕ) (most : ℕ) → 1 ≤ bench .run list s log picks most .steps
-      → bench .run list s log picks most .number ≡ 0
-      → (bench .run list s log picks most .state ≡ t) × (bench .run list s log picks most .steps ≡ k)) → ⊥
+      → ((list : List ℕ) (s : State) (lent : Lent) (picks : List ℕ) (most : ℕ) → 1 ≤ bench .run list s lent picks most .steps
+      → bench .run list s lent picks most .number ≡ 0
+      → (bench .run list s lent picks most .state ≡ t) × (bench .run list s lent picks most .steps ≡ k)) → ⊥
   pub undo-constant : (t : State)
-      → ((list : List ℕ) (s : State) (log : List ℕ) → bench .undo list s log .number ≡ 0 → bench .undo list s log .state ≡ t) → ⊥
+      → ((list : List ℕ) (s : State) (lent : Lent) → bench .undo list s lent .number ≡ 0 → bench .undo list s lent .state ≡ t) → ⊥
   pub lights-constant : (a : Lights) → ((list : List ℕ) (s : State) → bench .lights list s .number ≡ 0 → bench .lights list s ≡ a) → ⊥
   -- "one that writes nothing"
-  pub start-writes-nothing : ((list : List ℕ) (b : ℕ) (resets log : List ℕ) → bench .start list b resets log .log ≡ log) → ⊥
-  pub step-writes-nothing : ((list : List ℕ) (s : State) (log : List ℕ) (p : Pick) → bench .step list s log p .log ≡ log) → ⊥
-  pub run-writes-nothing : ((list : List ℕ) (s : State) (log picks : List ℕ) (most : ℕ) → bench .run list s log picks most .log ≡ log) → ⊥
+  pub start-writes-nothing : ((list : List ℕ) (b : ℕ) (resets : List ℕ) (lent : Lent) → bench .start list b resets lent .lent ≡ lent) → ⊥
+  pub step-writes-nothing : ((list : List ℕ) (s : State) (lent : Lent) (p : Pick) → bench .step list s lent p .lent ≡ lent) → ⊥
+  pub run-writes-nothing : ((list : List ℕ) (s : State) (lent : Lent) (picks : List ℕ) (most : ℕ) → bench .run list s lent picks most .lent ≡ lent) → ⊥
   -- "one that makes the first step truly and afterwards only advances m": of the steps taken, single or in a run from the start
-  pub step-only-m : ((list : List ℕ) (s : State) (log : List ℕ) (p : Pick) → 1 ≤ s .m → bench .step list s log p .number ≡ 0
-      → bench .step list s log p .state ≡ with-m s (s .m + 1)) → ⊥
-  pub run-only-m : ((list : List ℕ) (s : State) (log picks : List ℕ) (most : ℕ) → s .m ≡ 0 → 1 ≤ bench .run list s log picks most .steps
-      → bench .run list s log picks most .number ≡ 0
-      → bench .run list s log picks most .state
-      ≡ with-m (bench .step list s log (pick-at picks 0) .state) (bench .run list s log picks most .steps)) → ⊥
+  pub step-only-m : ((list : List ℕ) (s : State) (lent : Lent) (p : Pick) → 1 ≤ s .m → bench .step list s lent p .number ≡ 0
+      → bench .step list s lent p .state ≡ with-m s (s .m + 1)) → ⊥
+  pub run-only-m : ((list : List ℕ) (s : State) (lent : Lent) (picks : List ℕ) (most : ℕ) → s .m ≡ 0 → 1 ≤ bench .run list s lent picks most .steps
+      → bench .run list s lent picks most .number ≡ 0
+      → bench .run list s lent picks most .state
+      ≡ with-m (bench .step list s lent (pick-at picks 0) .state) (bench .run list s lent picks most .steps)) → ⊥
   -- "a RUN with an invented number of steps": another than that of the single steps that lead to its state
-  pub run-invents : (list : List ℕ) (s : State) (log picks : List ℕ) (most k : ℕ) → Held s
-      → Singles bench list picks s log k (bench .run list s log picks most .state) (bench .run list s log picks most .log)
-      → bench .run list s log picks most .steps ≢ k → ⊥
+  pub run-invents : (list : List ℕ) (s : State) (lent : Lent) (picks : List ℕ) (most k : ℕ) → Held s
+      → Singles bench list picks s lent k (bench .run list s lent picks most .state) (bench .run list s lent picks most .lent)
+      → bench .run list s lent picks most .steps ≢ k → ⊥
   -- a RUN that never takes a step
-  pub run-idle : ((list : List ℕ) (s : State) (log picks : List ℕ) (most : ℕ) → before-steps list s picks ≡ 0
-      → bench .run list s log picks most .steps ≡ 0) → ⊥
+  pub run-idle : ((list : List ℕ) (s : State) (lent : Lent) (picks : List ℕ) (most : ℕ) → before-steps list s picks ≡ 0
+      → bench .run list s lent picks most .steps ≡ 0) → ⊥
   -- LIGHTS that are always dark
   pub lights-dark : ((list : List ℕ) (s : State) → bench .lights list s .number ≡ 0
       → bench .lights list s ≡ record { number = 0; ready = 0; in-turn = 0; waiting = 0; ended = 0; rows = dark ∷ dark ∷ [] }) → ⊥
@@ -109,24 +110,24 @@ pub record ShutOut (bench : Seven) : Type 0 where
       → (v : ℕ) → v < variables → bit (getD (getD (bench .lights list s .rows) 0 []) v 0) j ≡ false
       → AsksOf (next-step list s j .own) v → ⊥
   -- "Undo that restores variables but not priorities", in any history
-  pub undo-priorities : (list : List ℕ) (s : State) (log : List ℕ) (calls : List Call) (steps : Steps)
-      → history bench list s log calls .standing ≡ some steps
-      → let now = history bench list s log calls in
-      bench .undo list (now .state) (now .log) .state .priorities ≢ below steps .state .priorities → ⊥
+  pub undo-priorities : (list : List ℕ) (s : State) (lent : Lent) (calls : List Call) (steps : Steps)
+      → history bench list s lent calls .standing ≡ some steps
+      → let now = history bench list s lent calls in
+      bench .undo list (now .state) (now .lent) .state .priorities ≢ below steps .state .priorities → ⊥
   -- "Lowering the priority number of a waiting station", by any step
-  pub waiting-charged : (list : List ℕ) (s : State) (log : List ℕ) (p : Pick) → Held s → bench .step list s log p .number ≡ 0
-      → (j : ℕ) → j < s .n → waiting list s j ≡ true → priority (bench .step list s log p .state) j ≢ priority s j → ⊥
+  pub waiting-charged : (list : List ℕ) (s : State) (lent : Lent) (p : Pick) → Held s → bench .step list s lent p .number ≡ 0
+      → (j : ℕ) → j < s .n → waiting list s j ≡ true → priority (bench .step list s lent p .state) j ≢ priority s j → ⊥
   -- "Judging readiness after the step, so the station just released is charged"
-  pub judged-late : (list : List ℕ) (s : State) (log : List ℕ) (p : Pick) → Held s → bench .step list s log p .number ≡ 0
-      → (j : ℕ) → j < s .n → ready list s j ≡ false → ready list (bench .step list s log p .state) j ≡ true
-      → priority (bench .step list s log p .state) j ≢ priority s j → ⊥
+  pub judged-late : (list : List ℕ) (s : State) (lent : Lent) (p : Pick) → Held s → bench .step list s lent p .number ≡ 0
+      → (j : ℕ) → j < s .n → ready list s j ≡ false → ready list (bench .step list s lent p .state) j ≡ true
+      → priority (bench .step list s lent p .state) j ≢ priority s j → ⊥
   -- a STEP that says of a station that has ended only that it is not ready, and one that says of a waiting station that it has ended
-  pub ended-untold : ((list : List ℕ) (s : State) (log : List ℕ) (p : Pick) → bench .step list s log p .number ≢ ENDED) → ⊥
-  pub waiting-ended : (list : List ℕ) (s : State) (log : List ℕ) (p : Pick) → waiting list s (p .station) ≡ true
-      → bench .step list s log p .number ≡ ENDED → ⊥
+  pub ended-untold : ((list : List ℕ) (s : State) (lent : Lent) (p : Pick) → bench .step list s lent p .number ≢ ENDED) → ⊥
+  pub waiting-ended : (list : List ℕ) (s : State) (lent : Lent) (p : Pick) → waiting list s (p .station) ≡ true
+      → bench .step list s lent p .number ≡ ENDED → ⊥
   -- a START that stores another B than it was given
-  pub another-b : (list : List ℕ) (b : ℕ) (resets log : List ℕ) → bench .start list b resets log .number ≡ 0
-      → bench .start list b resets log .state .b ≢ b → ⊥
+  pub another-b : (list : List ℕ) (b : ℕ) (resets : List ℕ) (lent : Lent) → bench .start list b resets lent .number ≡ 0
+      → bench .start list b resets lent .state .b ≢ b → ⊥
 
 -- "Demand 2 shuts out all four"
 abbrev pub ByDemand2 : Type 0
@@ -150,11 +151,11 @@ abbrev pub WithTests : Type 0
 WithTests = (bench : Seven) → Demand1 bench → Demand2 bench → CheckShutOut bench
 
 -- the rules' calls, but that a step charges waiting stations too
-abbrev charge-waiting : List ℕ → State → List ℕ → Pick → Stepped
-charge-waiting list s log p =
-    let a = step list s log p in
+abbrev charge-waiting : List ℕ → State → Lent → Pick → Stepped
+charge-waiting list s lent p =
+    let a = step list s lent p in
     let z = changed (λ j. charged (eqb j (p .station)) (not (ended list s j)) (p .reset)) (s .n) (s .priorities) in
-    if eqb (a .number) 0 then record { number = 0; state = with-priorities (a .state) z; log = a .log } else a
+    if eqb (a .number) 0 then record { number = 0; state = with-priorities (a .state) z; lent = a .lent } else a
 
 abbrev pub charging : Seven
 charging =
@@ -171,8 +172,8 @@ charging =
 -- "then demand 3's bound on k breaks", on a list made from an accepted sequence, by steps alone
 abbrev pub WaitingBreaks : Type 0
 WaitingBreaks =
-    ((file : List ℕ) → Accepted file → (s : State) (log : List ℕ) (calls : List Call) (steps : Steps)
-    → history charging (built file) s log calls .standing ≡ some steps → FewLow (built file) (history charging (built file) s log calls .state)) → ⊥
+    ((file : List ℕ) → Accepted file → (s : State) (lent : Lent) (calls : List Call) (steps : Steps)
+    → history charging (built file) s lent calls .standing ≡ some steps → FewLow (built file) (history charging (built file) s lent calls .state)) → ⊥
 
 -- calls that refuse everything
 abbrev pub idle : Seven
@@ -180,10 +181,10 @@ idle =
     record {
       check = λ file. record { number = LENGTH; place = 0 };
       build = λ file buffer. record { number = LENGTH; place = 0; count = 0; buffer = buffer };
-      start = λ list b resets log. record { number = LIST; state = zeros; log = log };
-      step = λ list s log p. record { number = LIST; state = s; log = log };
-      run = λ list s log picks most. record { number = LIST; state = s; steps = 0; log = log };
-      undo = λ list s log. record { number = LIST; state = s };
+      start = λ list b resets lent. record { number = LIST; state = zeros; lent = lent };
+      step = λ list s lent p. record { number = LIST; state = s; lent = lent };
+      run = λ list s lent picks most. record { number = LIST; state = s; steps = 0; lent = lent };
+      undo = λ list s lent. record { number = LIST; state = s };
       lights = λ list s. record { number = LIST; ready = 0; in-turn = 0; waiting = 0; ended = 0; rows = dark ∷ dark ∷ [] };
     }
 

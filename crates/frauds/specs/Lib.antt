@@ -1,2 +1,1 @@
 pub mod Frauds
-pub mod Witness

@@ -14,9 +14,9 @@ not-log : (steps : Steps) → below steps .number ≢ LOG
 not-log (begun b resets s) = omega arith
 not-log (taken steps p s) = omega arith
 
-back : (list : List ℕ) (now : Now) (steps : Steps) → Follows list (now .state) (now .log) steps → Back ruled list now steps
+back : (list : List ℕ) (now : Now) (steps : Steps) → Follows list (now .state) (now .lent) steps → Back ruled list now steps
 back list now steps f =
-    let e = undo-answers list (now .state) (now .log) steps f in
+    let e = undo-answers list (now .state) (now .lent) steps f in
     let facts = stack-facts list (f .made) in
     record {
       last = f .last;
@@ -32,5 +32,5 @@ back list now steps f =
     }
 
 pub undo-below : UndoBelow ruled
-undo-below list s log calls steps stands =
-    back list (history ruled list s log calls) steps (history-follows list s log calls steps stands)
+undo-below list s lent calls steps stands =
+    back list (history ruled list s lent calls) steps (history-follows list s lent calls steps stands)

@@ -1,6 +1,6 @@
 -- What every history keeps: the last state answered is the top of the stack, START and STEP made the stack, and the log opens with its
 -- records. Assumes nothing.
-use mathlib.Core.Path.{_≡_, refl, sym, subst, _∙_}
+use mathlib.Core.Path.{_≡_, refl, sym, ap, subst, _∙_}
 use mathlib.Core.List.{List, [], _∷_, _++_, append-assoc}
 use mathlib.Core.Option.{Option, none, some}
 use Prim.Native.Nat.{ℕ, zero, suc, _+_}
@@ -10,6 +10,7 @@ use lib.ListN.{length, drop}
 use Rattle.rules.specs.Words.{if_then_else_, written}
 use Rattle.rules.specs.Records.{Pick, pick-at, pick-bytes}
 use Rattle.rules.specs.State.{State}
+use Rattle.rules.specs.Lent.{Lent}
 use Rattle.rules.specs.Start.{start, start-records}
 use Rattle.rules.specs.Step.{step}
 use Rattle.rules.specs.Undo.{undo}
@@ -23,43 +24,43 @@ use Rattle.history.proofs.Calls.{run-single}
 use Rattle.history.proofs.Stack.{stack-facts}
 use Rattle.history.proofs.Undone.{undo-made}
 
--- of a state, a log and the steps that stand
-pub record Follows (list : List ℕ) (s : State) (log : List ℕ) (steps : Steps) : Type 0 where
+-- of a state, what is lent and the steps that stand
+pub record Follows (list : List ℕ) (s : State) (lent : Lent) (steps : Steps) : Type 0 where
   pub last : s ≡ top steps
   pub made : Made ruled list steps
   pub rest : List ℕ
-  pub logged : log ≡ spelled steps ++ rest
+  pub logged : lent .log ≡ spelled steps ++ rest
 
 -- the same where a start stands
-abbrev Follows-if : List ℕ → State → List ℕ → Option Steps → Type 0
-Follows-if list s log none = Unit
-Follows-if list s log (some steps) = Follows list s log steps
+abbrev Follows-if : List ℕ → State → Lent → Option Steps → Type 0
+Follows-if list s lent none = Unit
+Follows-if list s lent (some steps) = Follows list s lent steps
 
 abbrev Follows-now : List ℕ → Now → Type 0
-Follows-now list now = Follows-if list (now .state) (now .log) (now .standing)
+Follows-now list now = Follows-if list (now .state) (now .lent) (now .standing)
 
-step-follows : (list : List ℕ) (s : State) (log : List ℕ) (p : Pick) → step list s log p .number ≡ 0 → (standing : Option Steps)
-    → Follows-if list s log standing
-    → Follows-if list (step list s log p .state) (step list s log p .log) (pushed standing p (step list s log p .state))
+step-follows : (list : List ℕ) (s : State) (lent : Lent) (p : Pick) → step list s lent p .number ≡ 0 → (standing : Option Steps)
+    → Follows-if list s lent standing
+    → Follows-if list (step list s lent p .state) (step list s lent p .lent) (pushed standing p (step list s lent p .state))
 unfolding spelled
-step-follows list s log p h none f = tt
-step-follows list s log p h (some steps) f =
+step-follows list s lent p h none f = tt
+step-follows list s lent p h (some steps) f =
     let m = rw (f .last) at h in
     let at = stack-facts list (f .made) .bytes in
     record {
       last = refl;
-      made = rw (f .last) (by-step p log (f .made) m);
+      made = rw (f .last) (by-step p lent (f .made) m);
       rest = drop 2 (f .rest);
-      logged = step-written list s log p h ∙ rw (f .last, f .logged, append-assoc) (written-behind (spelled steps) (f .rest) (pick-bytes p) _ at);
+      logged = ap (λ (l : Lent). l .log) (step-written list s lent p h) ∙ rw (f .last, f .logged, append-assoc) (written-behind (spelled steps) (f .rest) (pick-bytes p) _ at);
     }
 
 stepped-on-follows : (list : List ℕ) (now : Now) (p : Pick) → Follows-now list now → Follows-now list (stepped-on ruled list now p)
 unfolding stepped-on
 stepped-on-follows list now p f =
-    let a = step list (now .state) (now .log) p in
+    let a = step list (now .state) (now .lent) p in
     by-test (eqb (a .number) 0)
-    (λ y. rw y (step-follows list (now .state) (now .log) p (eqb-true _ 0 y) (now .standing) f))
-    (λ y. rw (y, step-refused list (now .state) (now .log) p y, step-leaves list (now .state) (now .log) p y) f)
+    (λ y. rw y (step-follows list (now .state) (now .lent) p (eqb-true _ 0 y) (now .standing) f))
+    (λ y. rw (y, step-refused list (now .state) (now .lent) p y, step-leaves list (now .state) (now .lent) p y) f)
 
 single-steps-follow : (list picks : List ℕ) (i count : ℕ) (now : Now) → Follows-now list now
     → Follows-now list (single-steps ruled list picks i count now)
@@ -68,34 +69,34 @@ single-steps-follow list picks i zero now f = f
 single-steps-follow list picks i (suc count) now f =
     single-steps-follow list picks (suc i) count (stepped-on ruled list now (pick-at picks i)) (stepped-on-follows list now (pick-at picks i) f)
 
-start-follows : (list : List ℕ) (b : ℕ) (resets log : List ℕ) (h : start list b resets log .number ≡ 0)
-    → Follows list (start list b resets log .state) (start list b resets log .log) (begun b resets (start list b resets log .state))
+start-follows : (list : List ℕ) (b : ℕ) (resets : List ℕ) (lent : Lent) (h : start list b resets lent .number ≡ 0)
+    → Follows list (start list b resets lent .state) (start list b resets lent .lent) (begun b resets (start list b resets lent .state))
 unfolding spelled written
-start-follows list b resets log h =
+start-follows list b resets lent h =
     record {
       last = refl;
-      made = by-start b resets log h;
-      rest = drop (0 + length (start-records 0 resets)) log;
-      logged = start-written list b resets log h;
+      made = by-start b resets lent h;
+      rest = drop (0 + length (start-records 0 resets)) (lent .log);
+      logged = ap (λ (l : Lent). l .log) (start-written list b resets lent h);
     }
 
 -- undo answers the state below
-pub undo-answers : (list : List ℕ) (s : State) (log : List ℕ) (steps : Steps) → Follows list s log steps → undo list s log ≡ below steps
-undo-answers list s log steps f = rw (f .last, f .logged) (undo-made list (f .made) (f .rest))
+pub undo-answers : (list : List ℕ) (s : State) (lent : Lent) (steps : Steps) → Follows list s lent steps → undo list s lent ≡ below steps
+undo-answers list s lent steps f = rw (f .last) (undo-made list (f .made) lent (f .rest) (f .logged))
 
 made-below : {list : List ℕ} {steps : Steps} {p : Pick} {s : State} → Made ruled list (taken steps p s) → Made ruled list steps
-made-below (by-step p log made h) = made
+made-below (by-step p lent made h) = made
 
-undo-follows : (list : List ℕ) (s : State) (log : List ℕ) (standing : Option Steps) → Follows-if list s log standing
-    → let a = undo list s log in
-    Follows-if list (a .state) log (if eqb (a .number) 0 then popped standing else standing)
+undo-follows : (list : List ℕ) (s : State) (lent : Lent) (standing : Option Steps) → Follows-if list s lent standing
+    → let a = undo list s lent in
+    Follows-if list (a .state) lent (if eqb (a .number) 0 then popped standing else standing)
 unfolding spelled
-undo-follows list s log none f = by-test (eqb (undo list s log .number) 0) (λ y. rw y tt) (λ y. rw y tt)
-undo-follows list s log (some (begun b resets t)) f =
-    rw (undo-answers list s log (begun b resets t) f)
+undo-follows list s lent none f = by-test (eqb (undo list s lent .number) 0) (λ y. rw y tt) (λ y. rw y tt)
+undo-follows list s lent (some (begun b resets t)) f =
+    rw (undo-answers list s lent (begun b resets t) f)
     (record { last = refl; made = f .made; rest = f .rest; logged = f .logged })
-undo-follows list s log (some (taken steps p t)) f =
-    rw (undo-answers list s log (taken steps p t) f)
+undo-follows list s lent (some (taken steps p t)) f =
+    rw (undo-answers list s lent (taken steps p t) f)
     (record {
       last = refl;
       made = made-below (f .made);
@@ -108,13 +109,13 @@ unfolding called
 called-follows list now (CHECK file) f = f
 called-follows list now (BUILD file buffer) f = f
 called-follows list now (START b resets) f =
-    by-test (eqb (start list b resets (now .log) .number) 0)
-    (λ y. rw y (start-follows list b resets (now .log) (eqb-true _ 0 y)))
-    (λ y. rw (y, start-leaves list b resets (now .log) y) f)
+    by-test (eqb (start list b resets (now .lent) .number) 0)
+    (λ y. rw y (start-follows list b resets (now .lent) (eqb-true _ 0 y)))
+    (λ y. rw (y, start-leaves list b resets (now .lent) y) f)
 called-follows list now (STEP p) f = stepped-on-follows list now p f
 called-follows list now (RUN picks most) f =
     subst (λ (after : Now). Follows-now list after) (sym (run-single list now picks most .0)) (single-steps-follow list picks 0 _ now f)
-called-follows list now UNDO f = undo-follows list (now .state) (now .log) (now .standing) f
+called-follows list now UNDO f = undo-follows list (now .state) (now .lent) (now .standing) f
 called-follows list now LIGHTS f = f
 
 calls-follow : (list : List ℕ) (now : Now) (calls : List Call) → Follows-now list now → Follows-now list (calls-from ruled list now calls)
@@ -122,9 +123,9 @@ unfolding calls-from
 calls-follow list now [] f = f
 calls-follow list now (c ∷ calls) f = calls-follow list (called ruled list now c) calls (called-follows list now c f)
 
-pub history-follows : (list : List ℕ) (s : State) (log : List ℕ) (calls : List Call) (steps : Steps)
-    → history ruled list s log calls .standing ≡ some steps
-    → Follows list (history ruled list s log calls .state) (history ruled list s log calls .log) steps
-history-follows list s log calls steps stands =
-    subst (λ (o : Option Steps). Follows-if list (history ruled list s log calls .state) (history ruled list s log calls .log) o) stands
-    (calls-follow list (record { state = s; log = log; standing = none }) calls tt)
+pub history-follows : (list : List ℕ) (s : State) (lent : Lent) (calls : List Call) (steps : Steps)
+    → history ruled list s lent calls .standing ≡ some steps
+    → Follows list (history ruled list s lent calls .state) (history ruled list s lent calls .lent) steps
+history-follows list s lent calls steps stands =
+    subst (λ (o : Option Steps). Follows-if list (history ruled list s lent calls .state) (history ruled list s lent calls .lent) o) stands
+    (calls-follow list (record { state = s; lent = lent; standing = none }) calls tt)

@@ -78,19 +78,19 @@ module _ (list : List ℕ) (j : ℕ) where
   potential : {steps : Steps} → Made ruled list steps → j < top steps .n
       → passed-since list j steps + above (top steps .n) (priority (top steps) j) ≤ top steps .b + top steps .n
   unfolding passed-since stepped
-  potential (by-start b resets log h) l =
-      let s = start list b resets log .state in
-      let v = sound-means list s .0 (stack-facts list (by-start b resets log h) .sound) in
+  potential (by-start b resets lent h) l =
+      let s = start list b resets lent .state in
+      let v = sound-means list s .0 (stack-facts list (by-start b resets lent h) .sound) in
       omega (arith, above-within (s .n) (priority s j) (s .b) (v .bounded j l))
-  potential (by-step {steps} p log made h) l =
+  potential (by-step {steps} p lent made h) l =
       let s = top steps in
-      let after = step list s log p .state in
+      let after = step list s lent p .state in
       let f = stack-facts list made in
-      let n : after .n ≡ s .n = rw (step-state list s log p h) in
-      let b : after .b ≡ s .b = rw (step-state list s log p h) in
+      let n : after .n ≡ s .n = rw (step-state list s lent p h) in
+      let b : after .b ≡ s .b = rw (step-state list s lent p h) in
       let there = rw n at l in
       rw (n, b)
-      (turn (s .n) (s .b) (ready list s) (priority s) (priority after) (p .station) (p .reset) (step-fair list s log p (f .held) h .1)
+      (turn (s .n) (s .b) (ready list s) (priority s) (priority after) (p .station) (p .reset) (step-fair list s lent p (f .held) h .1)
       j (passed-since list j steps) there (above-low s (sound-means list s .0 (f .sound) .few) j there) (potential made there))
 
 -- no stretch without a pick has more than there are since the last pick
@@ -113,7 +113,7 @@ few list s n h (suc i) one within = rw n at (leb-true _ (s .n) (h i (omega arith
 -- what is left of a stack that START and STEP made is one too, with the same start
 made-part : {list : List ℕ} {part steps : Steps} → Lower part steps → Made ruled list steps → (start-b part ≡ start-b steps) × Made ruled list part
 made-part whole made = (refl, made)
-made-part (under part) (by-step p log made h) = made-part part made
+made-part (under part) (by-step p lent made h) = made-part part made
 
 low : (list : List ℕ) {steps : Steps} → Made ruled list steps → FewLow list (top steps)
 low list {steps} made =
@@ -136,8 +136,8 @@ passed list {steps} made j l k u =
     )
 
 pub passed-over-bound : PassedOver ruled
-passed-over-bound list s log calls steps stands =
-    let f = history-follows list s log calls steps stands in
+passed-over-bound list s lent calls steps stands =
+    let f = history-follows list s lent calls steps stands in
     record {
       few-low = rw (f .last) (low list (f .made));
       few-low-standing = λ part p. low list (made-part p (f .made) .1);

@@ -10,6 +10,7 @@ use Rattle.rules.specs.Words.{values}
 use Rattle.rules.specs.Records.{Pick, pick-at, pick-bytes}
 use Rattle.rules.specs.List.{stations, sound-list}
 use Rattle.rules.specs.State.{sound-state}
+use Rattle.rules.specs.Lent.{Lent}
 use Rattle.rules.specs.Start.{started, start}
 use Rattle.rules.specs.Step.{stepped, picked, step}
 use Rattle.rules.specs.Undo.{replay, starts-right, replayed}
@@ -36,13 +37,13 @@ pub record Facts (list : List ℕ) (steps : Steps) : Type 0 where
   pub starts : (rest : List ℕ) → starts-right list (top steps .b) (spelled steps ++ rest) ≡ true
   pub replays : (rest : List ℕ) → replayed list (spelled steps ++ rest) (top steps .b) (suc (top steps .m)) ≡ record { number = 0; state = top steps }
 
-module _ (list : List ℕ) (b : ℕ) (resets log : List ℕ) (h : start list b resets log .number ≡ 0) where
-  start-facts : Facts list (begun b resets (start list b resets log .state))
+module _ (list : List ℕ) (b : ℕ) (resets : List ℕ) (lent : Lent) (h : start list b resets lent .number ≡ 0) where
+  start-facts : Facts list (begun b resets (start list b resets lent .state))
   unfolding spelled replayed replay started
   start-facts =
-      let a = start-can list b resets log h in
-      let state = start-state list b resets log h in
-      let s = start-sound list b resets log h in
+      let a = start-can list b resets lent h in
+      let state = start-state list b resets lent h in
+      let s = start-sound list b resets lent h in
       record {
         of-list = a .of-list;
         sound = s .0;
@@ -55,7 +56,7 @@ module _ (list : List ℕ) (b : ℕ) (resets log : List ℕ) (h : start list b r
         replays = λ rest. rw (state, resets-behind resets rest (stations list) (a .count));
       }
 
-module _ (list : List ℕ) (steps : Steps) (p : Pick) (log : List ℕ) (f : Facts list steps) (h : step list (top steps) log p .number ≡ 0) where
+module _ (list : List ℕ) (steps : Steps) (p : Pick) (lent : Lent) (f : Facts list steps) (h : step list (top steps) lent p .number ≡ 0) where
   more-replays : (rest : List ℕ)
       → replayed list (spelled steps ++ (pick-bytes p ++ rest)) (top steps .b) (suc (top steps .m + 1))
       ≡ record { number = 0; state = stepped list (top steps) p }
@@ -63,7 +64,7 @@ module _ (list : List ℕ) (steps : Steps) (p : Pick) (log : List ℕ) (f : Fact
   more-replays rest =
       let s = top steps in
       let log′ = spelled steps ++ (pick-bytes p ++ rest) in
-      let goes = step-picks list s log p h in
+      let goes = step-picks list s lent p h in
       let same : stations list + s .m ≡ s .n + s .m = omega (arith, f .stations-are) in
       let at : pick-at log′ (stations list + s .m) ≡ p = pick-behind (spelled steps) rest _ p (rw same (f .bytes)) in
       let one : suc (s .m) - 1 ≡ s .m = omega arith in
@@ -75,15 +76,15 @@ module _ (list : List ℕ) (steps : Steps) (p : Pick) (log : List ℕ) (f : Fact
       → replay list log′ (stations list) (suc (s .m)) first ≡ record { number = 0; state = picked list s q .state })
       at (replay-more list log′ (stations list) (s .m) first s (rw one at (f .replays (pick-bytes p ++ rest)))) goes)
 
-  step-facts : Facts list (taken steps p (step list (top steps) log p .state))
+  step-facts : Facts list (taken steps p (step list (top steps) lent p .state))
   unfolding spelled stepped
   step-facts =
       let s = top steps in
-      let e = step-state list s log p h in
+      let e = step-state list s lent p h in
       record {
         of-list = f .of-list;
-        sound = step-sound list s log p (f .sound);
-        held = step-held list s log p (f .held);
+        sound = step-sound list s lent p (f .sound);
+        held = step-held list s lent p (f .held);
         stations-are = rw e (f .stations-are);
         b-is = rw e (f .b-is);
         counted = rw e (omega (arith, f .counted));
@@ -93,5 +94,5 @@ module _ (list : List ℕ) (steps : Steps) (p : Pick) (log : List ℕ) (f : Fact
       }
 
 pub stack-facts : (list : List ℕ) {steps : Steps} → Made ruled list steps → Facts list steps
-stack-facts list (by-start b resets log h) = start-facts list b resets log h
-stack-facts list (by-step {steps} p log made h) = step-facts list steps p log (stack-facts list made) h
+stack-facts list (by-start b resets lent h) = start-facts list b resets lent h
+stack-facts list (by-step {steps} p lent made h) = step-facts list steps p lent (stack-facts list made) h

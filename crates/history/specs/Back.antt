@@ -9,16 +9,17 @@ use Rattle.rules.specs.Names.{EMPTY, LOG}
 use Rattle.rules.specs.Records.{Pick}
 use Rattle.rules.specs.List.{stations}
 use Rattle.rules.specs.State.{State, sound-state}
+use Rattle.rules.specs.Lent.{Lent}
 use Rattle.rules.specs.Undo.{Undone, replayed}
 use Rattle.rules.specs.Calls.{Seven}
 use Rattle.rules.specs.History.{Call, Steps, begun, taken, top, start-b, height, spelled, Now, history}
 
 -- each state on the stack is what START, or STEP from the state below, answered unrefused
 pub data Made (bench : Seven) (list : List ℕ) : Steps → Type 0 where
-  by-start : (b : ℕ) (resets log : List ℕ) → bench .start list b resets log .number ≡ 0
-      → Made bench list (begun b resets (bench .start list b resets log .state))
-  by-step : {steps : Steps} (p : Pick) (log : List ℕ) → Made bench list steps → bench .step list (top steps) log p .number ≡ 0
-      → Made bench list (taken steps p (bench .step list (top steps) log p .state))
+  by-start : (b : ℕ) (resets : List ℕ) (lent : Lent) → bench .start list b resets lent .number ≡ 0
+      → Made bench list (begun b resets (bench .start list b resets lent .state))
+  by-step : {steps : Steps} (p : Pick) (lent : Lent) → Made bench list steps → bench .step list (top steps) lent p .number ≡ 0
+      → Made bench list (taken steps p (bench .step list (top steps) lent p .state))
 
 -- what undo has to answer: the state below the top, whole; where there is none, EMPTY and the state given
 abbrev pub below : Steps → Undone
@@ -35,14 +36,14 @@ pub record Back (bench : Seven) (list : List ℕ) (now : Now) (steps : Steps) : 
   pub sound : sound-state list (now .state) ≡ true
   pub made : Made bench list steps
   -- the log opens with the records of what stands
-  pub logged : (rest : List ℕ) × (now .log ≡ spelled steps ++ rest)
+  pub logged : (rest : List ℕ) × (now .lent .log ≡ spelled steps ++ rest)
   -- replaying the first n+m records gives the state: undo from one step more would
-  pub replays : replayed list (now .log) (now .state .b) (suc (now .state .m)) ≡ record { number = 0; state = now .state }
+  pub replays : replayed list (now .lent .log) (now .state .b) (suc (now .state .m)) ≡ record { number = 0; state = now .state }
   -- undo answers the state below, or EMPTY; never LOG
-  pub undone : bench .undo list (now .state) (now .log) ≡ below steps
-  pub never-log : bench .undo list (now .state) (now .log) .number ≢ LOG
+  pub undone : bench .undo list (now .state) (now .lent) ≡ below steps
+  pub never-log : bench .undo list (now .state) (now .lent) .number ≢ LOG
 
 abbrev pub UndoBelow : Seven → Type 0
 UndoBelow bench =
-    (list : List ℕ) (s : State) (log : List ℕ) (calls : List Call) (steps : Steps)
-    → history bench list s log calls .standing ≡ some steps → Back bench list (history bench list s log calls) steps
+    (list : List ℕ) (s : State) (lent : Lent) (calls : List Call) (steps : Steps)
+    → history bench list s lent calls .standing ≡ some steps → Back bench list (history bench list s lent calls) steps

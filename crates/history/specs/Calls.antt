@@ -12,7 +12,7 @@ steps-before bench list now (CHECK file) = 0
 steps-before bench list now (BUILD file buffer) = 0
 steps-before bench list now (START b resets) = 0
 steps-before bench list now (STEP p) = 0
-steps-before bench list now (RUN picks most) = bench .run list (now .state) (now .log) picks most .steps
+steps-before bench list now (RUN picks most) = bench .run list (now .state) (now .lent) picks most .steps
 steps-before bench list now UNDO = 0
 steps-before bench list now LIGHTS = 0
 
@@ -25,6 +25,6 @@ RefusedLeaves bench =
 abbrev pub RunSingle : Seven → Type 0
 RunSingle bench =
     (list : List ℕ) (now : Now) (picks : List ℕ) (most : ℕ)
-    → let a = bench .run list (now .state) (now .log) picks most in
+    → let a = bench .run list (now .state) (now .lent) picks most in
     (called bench list now (RUN picks most) ≡ single-steps bench list picks 0 (a .steps) now)
     × (a .state .m ≡ now .state .m + a .steps)

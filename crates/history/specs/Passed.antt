@@ -10,6 +10,7 @@ use Rattle.rules.specs.Words.{tally}
 use Rattle.rules.specs.Records.{Pick}
 use Rattle.rules.specs.List.{stations}
 use Rattle.rules.specs.State.{State, priority}
+use Rattle.rules.specs.Lent.{Lent}
 use Rattle.rules.specs.Calls.{Seven}
 use Rattle.rules.specs.History.{Call, Steps, taken, top, start-b, Now, history}
 use Rattle.rules.specs.Passed.{passed-over, Unpicked}
@@ -35,5 +36,5 @@ pub record Bounded (list : List ℕ) (now : Now) (steps : Steps) : Type 0 where
 
 abbrev pub PassedOver : Seven → Type 0
 PassedOver bench =
-    (list : List ℕ) (s : State) (log : List ℕ) (calls : List Call) (steps : Steps)
-    → history bench list s log calls .standing ≡ some steps → Bounded list (history bench list s log calls) steps
+    (list : List ℕ) (s : State) (lent : Lent) (calls : List Call) (steps : Steps)
+    → history bench list s lent calls .standing ≡ some steps → Bounded list (history bench list s lent calls) steps

@@ -24,9 +24,9 @@ offset now LIGHTS = 0
 abbrev pub records-written : Seven → List ℕ → Now → Call → List ℕ
 records-written bench list now (CHECK file) = []
 records-written bench list now (BUILD file buffer) = []
-records-written bench list now (START b resets) = if eqb (bench .start list b resets (now .log) .number) 0 then start-records 0 resets else []
-records-written bench list now (STEP p) = if eqb (bench .step list (now .state) (now .log) p .number) 0 then pick-bytes p else []
-records-written bench list now (RUN picks most) = take (2 * bench .run list (now .state) (now .log) picks most .steps) picks
+records-written bench list now (START b resets) = if eqb (bench .start list b resets (now .lent) .number) 0 then start-records 0 resets else []
+records-written bench list now (STEP p) = if eqb (bench .step list (now .state) (now .lent) p .number) 0 then pick-bytes p else []
+records-written bench list now (RUN picks most) = take (2 * bench .run list (now .state) (now .lent) picks most .steps) picks
 records-written bench list now UNDO = []
 records-written bench list now LIGHTS = []
 
@@ -37,4 +37,4 @@ pub record Put (log after : List ℕ) (at : ℕ) (bytes : List ℕ) : Type 0 whe
 
 abbrev pub LogWritten : Seven → Type 0
 LogWritten bench =
-    (list : List ℕ) (now : Now) (c : Call) → Put (now .log) (called bench list now c .log) (offset now c) (records-written bench list now c)
+    (list : List ℕ) (now : Now) (c : Call) → Put (now .lent .log) (called bench list now c .lent .log) (offset now c) (records-written bench list now c)

@@ -169,6 +169,6 @@ module _ (file : List ℕ) (bytes : (i : ℕ) → getD file i 0 < 256) (accepted
   sound-standing s h = sound-means (built file) s .0 h .placed
 
   pub taken-moves : TakenMoves file
-  taken-moves s log p h =
-      let t = step-taken (built file) s log p .0 h in
-      rw (step-state (built file) s log p h) (step-moves s (sound-standing s (t .0 .of-state)) p (t .1 .station) _ _ .1 (t .1 .enabled, refl, refl))
+  taken-moves s lent p h =
+      let t = step-taken (built file) s lent p .0 h in
+      rw (step-state (built file) s lent p h) (step-moves s (sound-standing s (t .0 .of-state)) p (t .1 .station) _ _ .1 (t .1 .enabled, refl, refl))

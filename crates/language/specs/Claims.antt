@@ -12,6 +12,7 @@ use Rattle.rules.specs.Records.{ListRecord, list-record-at, list-count, Pick}
 use Rattle.rules.specs.Trees.{nothing, stations-of, initial-part}
 use Rattle.rules.specs.List.{outside}
 use Rattle.rules.specs.State.{State, position, sound-state}
+use Rattle.rules.specs.Lent.{Lent}
 use Rattle.rules.specs.Ready.{next-step, ready}
 use Rattle.rules.specs.Start.{started}
 use Rattle.rules.specs.Move.{body-run, step-vars, step-position}
@@ -84,9 +85,9 @@ StepMoves file =
 -- so every step taken is one
 abbrev pub TakenMoves : List ℕ → Type 0
 TakenMoves file =
-    (s : State) (log : List ℕ) (p : Pick) → step (built file) s log p .number ≡ 0
+    (s : State) (lent : Lent) (p : Pick) → step (built file) s lent p .number ≡ 0
     → Moves (p .station) (programs file s) (s .vars)
-    (programs file (step (built file) s log p .state)) (step (built file) s log p .state .vars)
+    (programs file (step (built file) s lent p .state)) (step (built file) s lent p .state .vars)
 
 -- at the start the stations are whole, and the initial part has been run from zeros
 abbrev pub StartWhole : List ℕ → Type 0

@@ -2,16 +2,17 @@
 use mathlib.Core.Path.{_≡_, refl, sym, ap, _∙_}
 use mathlib.Core.Bool.{false}
 use mathlib.Core.List.{List}
-use Prim.Native.Nat.{ℕ, _+_, _*_}
+use Prim.Native.Nat.{ℕ}
 use borrow.Author.Tests.{eq-eqb, ne-eqb}
 use lib.Dec.{eqb}
-use Rattle.rules.specs.Words.{if_then_else_, written, Answer, judge, refusal}
+use Rattle.rules.specs.Words.{if_then_else_, Answer, judge, refusal}
 use Rattle.rules.specs.Names.{LOG}
-use Rattle.rules.specs.Records.{Pick, pick-bytes}
+use Rattle.rules.specs.Records.{Pick}
 use Rattle.rules.specs.Build.{Built, build-tests, build}
 use Rattle.rules.specs.State.{State}
-use Rattle.rules.specs.Start.{started, start-records, Started, start-tests, start}
-use Rattle.rules.specs.Step.{stepped, pick-tests, Picked, picked, step-tests, Stepped, step}
+use Rattle.rules.specs.Lent.{Lent}
+use Rattle.rules.specs.Start.{started, with-starts, Started, start-tests, start}
+use Rattle.rules.specs.Step.{stepped, with-pick, pick-tests, Picked, picked, step-tests, Stepped, step}
 use Rattle.rules.specs.Undo.{Undone, replayed, before-replay, replay-tests, undo-tests, undo}
 use Rattle.rules.specs.Lights.{Lights, lights-tests, lights}
 use Rattle.laws.specs.Passed.{CanStart, CanStep, CanPick, CanReplay, CanUndo}
@@ -23,23 +24,23 @@ pub build-number : (file buffer : List ℕ) → build file buffer .number ≡ re
 unfolding build
 build-number file buffer = answer-number (λ (a : Built). a .number) (refusal (build-tests file buffer)) _ _ refl refl
 
-module _ (list : List ℕ) (b : ℕ) (resets log : List ℕ) where
-  pub start-number : start list b resets log .number ≡ refusal (start-tests list b resets log)
+module _ (list : List ℕ) (b : ℕ) (resets : List ℕ) (lent : Lent) where
+  pub start-number : start list b resets lent .number ≡ refusal (start-tests list b resets lent)
   unfolding start
-  start-number = answer-number (λ (a : Started). a .number) (refusal (start-tests list b resets log)) _ _ refl refl
+  start-number = answer-number (λ (a : Started). a .number) (refusal (start-tests list b resets lent)) _ _ refl refl
 
-  pub start-can : start list b resets log .number ≡ 0 → CanStart list b resets log
-  start-can h = start-passed list b resets log .0 (sym start-number ∙ h)
+  pub start-can : start list b resets lent .number ≡ 0 → CanStart list b resets lent
+  start-can h = start-passed list b resets lent .0 (sym start-number ∙ h)
 
-  pub start-state : start list b resets log .number ≡ 0 → start list b resets log .state ≡ started list b resets
+  pub start-state : start list b resets lent .number ≡ 0 → start list b resets lent .state ≡ started list b resets
   unfolding start
   start-state h = rw (eq-eqb _ 0 (sym start-number ∙ h))
 
-  pub start-written : start list b resets log .number ≡ 0 → start list b resets log .log ≡ written log 0 (start-records 0 resets)
+  pub start-written : start list b resets lent .number ≡ 0 → start list b resets lent .lent ≡ with-starts lent resets
   unfolding start
   start-written h = rw (eq-eqb _ 0 (sym start-number ∙ h))
 
-  pub start-leaves : eqb (start list b resets log .number) 0 ≡ false → start list b resets log .log ≡ log
+  pub start-leaves : eqb (start list b resets lent .number) 0 ≡ false → start list b resets lent .lent ≡ lent
   unfolding start
   start-leaves h = rw (rw start-number at h)
 
@@ -59,83 +60,83 @@ module _ (list : List ℕ) (s : State) (p : Pick) where
   unfolding picked
   picked-leaves h = rw (rw picked-number at h)
 
-module _ (list : List ℕ) (s : State) (log : List ℕ) (p : Pick) where
-  pub step-number : step list s log p .number ≡ refusal (step-tests list s log p)
+module _ (list : List ℕ) (s : State) (lent : Lent) (p : Pick) where
+  pub step-number : step list s lent p .number ≡ refusal (step-tests list s lent p)
   unfolding step
-  step-number = answer-number (λ (a : Stepped). a .number) (refusal (step-tests list s log p)) _ _ refl refl
+  step-number = answer-number (λ (a : Stepped). a .number) (refusal (step-tests list s lent p)) _ _ refl refl
 
-  pub step-can : step list s log p .number ≡ 0 → CanStep list s log × CanPick list s p
-  step-can h = step-passed list s log p .0 (sym step-number ∙ h)
+  pub step-can : step list s lent p .number ≡ 0 → CanStep list s lent × CanPick list s p
+  step-can h = step-passed list s lent p .0 (sym step-number ∙ h)
 
   -- a step that is taken is a pick that is
-  pub step-picks : step list s log p .number ≡ 0 → picked list s p .number ≡ 0
+  pub step-picks : step list s lent p .number ≡ 0 → picked list s p .number ≡ 0
   step-picks h = picked-number list s p ∙ pick-passed list s p .1 (step-can h .1)
 
-  pub step-state : step list s log p .number ≡ 0 → step list s log p .state ≡ stepped list s p
+  pub step-state : step list s lent p .number ≡ 0 → step list s lent p .state ≡ stepped list s p
   unfolding step
   step-state h = rw (eq-eqb _ 0 (sym step-number ∙ h)) (picked-state list s p (step-picks h))
 
-  pub step-written : step list s log p .number ≡ 0 → step list s log p .log ≡ written log (2 * (s .n + s .m)) (pick-bytes p)
+  pub step-written : step list s lent p .number ≡ 0 → step list s lent p .lent ≡ with-pick lent s p
   unfolding step
   step-written h = rw (eq-eqb _ 0 (sym step-number ∙ h))
 
-  -- refused, a step answers the state given and leaves the log
-  pub step-refused : eqb (step list s log p .number) 0 ≡ false → step list s log p .state ≡ s
+  -- refused, a step answers the state given and leaves what is lent
+  pub step-refused : eqb (step list s lent p .number) 0 ≡ false → step list s lent p .state ≡ s
   unfolding step
   step-refused h = rw (rw step-number at h)
 
-  pub step-leaves : eqb (step list s log p .number) 0 ≡ false → step list s log p .log ≡ log
+  pub step-leaves : eqb (step list s lent p .number) 0 ≡ false → step list s lent p .lent ≡ lent
   unfolding step
   step-leaves h = rw (rw step-number at h)
 
   -- where a step is not refused before its pick, it is the pick, and the pick's record in the log
-  pub step-picked : CanStep list s log
-      → step list s log p
+  pub step-picked : CanStep list s lent
+      → step list s lent p
       ≡ record {
         number = picked list s p .number;
         state = picked list s p .state;
-        log = if eqb (picked list s p .number) 0 then written log (2 * (s .n + s .m)) (pick-bytes p) else log;
+        lent = if eqb (picked list s p .number) 0 then with-pick lent s p else lent;
       }
   unfolding step picked
   step-picked can =
-      let same = step-tests-pick list s log p can in
+      let same = step-tests-pick list s lent p can in
       by-test (eqb (refusal (pick-tests list s p)) 0) (λ e. rw (same, e)) (λ e. rw (same, e, e))
 
-module _ (list : List ℕ) (s : State) (log : List ℕ) where
-  pub undo-number : undo list s log .number ≡ refusal (undo-tests list s log)
+module _ (list : List ℕ) (s : State) (lent : Lent) where
+  pub undo-number : undo list s lent .number ≡ refusal (undo-tests list s lent)
   unfolding undo
-  undo-number = answer-number (λ (a : Undone). a .number) (refusal (undo-tests list s log)) _ _ refl refl
+  undo-number = answer-number (λ (a : Undone). a .number) (refusal (undo-tests list s lent)) _ _ refl refl
 
-  pub undo-can : undo list s log .number ≡ 0 → CanUndo list s log
-  undo-can h = undo-passed list s log .0 (sym undo-number ∙ h)
+  pub undo-can : undo list s lent .number ≡ 0 → CanUndo list s lent
+  undo-can h = undo-passed list s lent .0 (sym undo-number ∙ h)
 
-  pub undo-state : undo list s log .number ≡ 0 → undo list s log .state ≡ replayed list log (s .b) (s .m) .state
+  pub undo-state : undo list s lent .number ≡ 0 → undo list s lent .state ≡ replayed list (lent .log) (s .b) (s .m) .state
   unfolding undo
   undo-state h = rw (eq-eqb _ 0 (sym undo-number ∙ h))
 
-  pub undo-refused : eqb (undo list s log .number) 0 ≡ false → undo list s log .state ≡ s
+  pub undo-refused : eqb (undo list s lent .number) 0 ≡ false → undo list s lent .state ≡ s
   unfolding undo
   undo-refused h = rw (rw undo-number at h)
 
   -- an undo refused before its replay
-  pub undo-refused-before : (refusal (before-replay list s log) ≡ 0 → ⊥)
-      → undo list s log ≡ record { number = refusal (before-replay list s log); state = s }
+  pub undo-refused-before : (refusal (before-replay list s lent) ≡ 0 → ⊥)
+      → undo list s lent ≡ record { number = refusal (before-replay list s lent); state = s }
   unfolding undo
   undo-refused-before h =
-      let same = ap (λ (a : Answer). a .number) (judge-before (before-replay list s log) (replay-tests list s log) h) in
+      let same = ap (λ (a : Answer). a .number) (judge-before (before-replay list s lent) (replay-tests list s lent) h) in
       rw (same, ne-eqb _ 0 h)
 
   -- and one that its replay decides
-  pub undo-replayed : CanReplay list s log
-      → undo list s log
-      ≡ (if eqb (replayed list log (s .b) (s .m) .number) 0
-      then record { number = 0; state = replayed list log (s .b) (s .m) .state }
+  pub undo-replayed : CanReplay list s lent
+      → undo list s lent
+      ≡ (if eqb (replayed list (lent .log) (s .b) (s .m) .number) 0
+      then record { number = 0; state = replayed list (lent .log) (s .b) (s .m) .state }
       else record { number = LOG; state = s })
   unfolding undo judge
   undo-replayed can =
-      let same = ap (λ (a : Answer). a .number) (judge-then (before-replay list s log) (replay-tests list s log)
-      (unrefused (before-replay list s log) refl .0 (replay-passed list s log .1 can))) in
-      by-test (eqb (replayed list log (s .b) (s .m) .number) 0) (λ e. rw (same, e)) (λ e. rw (same, e))
+      let same = ap (λ (a : Answer). a .number) (judge-then (before-replay list s lent) (replay-tests list s lent)
+      (unrefused (before-replay list s lent) refl .0 (replay-passed list s lent .1 can))) in
+      by-test (eqb (replayed list (lent .log) (s .b) (s .m) .number) 0) (λ e. rw (same, e)) (λ e. rw (same, e))
 
 pub lights-number : (list : List ℕ) (s : State) → lights list s .number ≡ refusal (lights-tests list s)
 unfolding lights

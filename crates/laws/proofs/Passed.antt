@@ -11,6 +11,7 @@ use Rattle.rules.specs.Names.{max-steps}
 use Rattle.rules.specs.Records.{Pick}
 use Rattle.rules.specs.List.{stations}
 use Rattle.rules.specs.State.{State}
+use Rattle.rules.specs.Lent.{Lent}
 use Rattle.rules.specs.Start.{start-tests}
 use Rattle.rules.specs.Step.{before-pick, pick-tests, step-tests}
 use Rattle.rules.specs.Undo.{replayed, before-replay, undo-tests}
@@ -29,10 +30,10 @@ lights-passed list s =
       λ h. tests .1 (rw (h .of-list), (rw (h .of-state), tt)),
     )
 
-pub start-passed : (list : List ℕ) (b : ℕ) (resets log : List ℕ)
-    → (refusal (start-tests list b resets log) ≡ 0) ↔ CanStart list b resets log
-start-passed list b resets log =
-    let tests = unrefused (start-tests list b resets log) refl in (
+pub start-passed : (list : List ℕ) (b : ℕ) (resets : List ℕ) (lent : Lent)
+    → (refusal (start-tests list b resets lent) ≡ 0) ↔ CanStart list b resets lent
+start-passed list b resets lent =
+    let tests = unrefused (start-tests list b resets lent) refl in (
       λ h.
           let t = tests .0 h in
           let (count, within) = neither _ _ (t .1 .0) in
@@ -41,7 +42,7 @@ start-passed list b resets log =
             of-list = not-false _ (t .0);
             count = n;
             within = λ j l. leb-true (getD resets j 0) b (each-at _ (length resets) (not-false _ within) j (omega arith));
-            room = ltb-false (length log) (2 * stations list) (t .1 .1 .0);
+            room = ltb-false (length (lent .log)) (2 * stations list) (t .1 .1 .0);
           },
       λ h. tests .1 (
         rw (h .of-list),
@@ -50,14 +51,14 @@ start-passed list b resets log =
             eq-eqb (length resets) (stations list) (h .count),
             each-all _ (length resets) (λ j l. le-leb (getD resets j 0) b (h .within j (omega (arith, h .count)))),
           ),
-          (le-ltb (length log) (2 * stations list) (h .room), tt),
+          (le-ltb (length (lent .log)) (2 * stations list) (h .room), tt),
         ),
       ),
     )
 
-pub before-passed : (list : List ℕ) (s : State) (log : List ℕ) → (refusal (before-pick list s log) ≡ 0) ↔ CanStep list s log
-before-passed list s log =
-    let tests = unrefused (before-pick list s log) refl in (
+pub before-passed : (list : List ℕ) (s : State) (lent : Lent) → (refusal (before-pick list s lent) ≡ 0) ↔ CanStep list s lent
+before-passed list s lent =
+    let tests = unrefused (before-pick list s lent) refl in (
       λ h.
           let t = tests .0 h in
           let sound = not-false _ (t .1 .0) in
@@ -65,7 +66,7 @@ before-passed list s log =
             of-list = not-false _ (t .0);
             of-state = sound;
             steps-left = omega (arith, sound-means list s .0 sound .few-steps, eqb-false (s .m) max-steps (t .1 .1 .0));
-            room = omega (arith, ltb-false (length log) (2 * (s .n + s .m + 1)) (t .1 .1 .1 .0));
+            room = omega (arith, ltb-false (length (lent .log)) (2 * (s .n + s .m + 1)) (t .1 .1 .1 .0));
           },
       λ h. tests .1 (
         rw (h .of-list),
@@ -73,7 +74,7 @@ before-passed list s log =
           rw (h .of-state),
           (
             ne-eqb (s .m) max-steps (omega (arith, h .steps-left)),
-            (le-ltb (length log) (2 * (s .n + s .m + 1)) (omega (arith, h .room)), tt),
+            (le-ltb (length (lent .log)) (2 * (s .n + s .m + 1)) (omega (arith, h .room)), tt),
           ),
         ),
       ),
@@ -100,33 +101,33 @@ pick-passed list s p =
     )
 
 -- where nothing refuses a step before its pick, the pick's tests decide
-pub step-tests-pick : (list : List ℕ) (s : State) (log : List ℕ) (p : Pick) → CanStep list s log
-    → refusal (step-tests list s log p) ≡ refusal (pick-tests list s p)
-step-tests-pick list s log p can =
+pub step-tests-pick : (list : List ℕ) (s : State) (lent : Lent) (p : Pick) → CanStep list s lent
+    → refusal (step-tests list s lent p) ≡ refusal (pick-tests list s p)
+step-tests-pick list s lent p can =
     ap (λ (a : Answer). a .number)
-    (judge-then (before-pick list s log) (pick-tests list s p)
-    (unrefused (before-pick list s log) refl .0 (before-passed list s log .1 can)))
+    (judge-then (before-pick list s lent) (pick-tests list s p)
+    (unrefused (before-pick list s lent) refl .0 (before-passed list s lent .1 can)))
 
-pub step-passed : (list : List ℕ) (s : State) (log : List ℕ) (p : Pick)
-    → (refusal (step-tests list s log p) ≡ 0) ↔ (CanStep list s log × CanPick list s p)
-step-passed list s log p = (
+pub step-passed : (list : List ℕ) (s : State) (lent : Lent) (p : Pick)
+    → (refusal (step-tests list s lent p) ≡ 0) ↔ (CanStep list s lent × CanPick list s p)
+step-passed list s lent p = (
   λ h.
-      let t = unrefused (step-tests list s log p) refl .0 h in
-      let can = before-passed list s log .0 (unrefused (before-pick list s log) refl .1 (t .0, (t .1 .0, (t .1 .1 .0, (t .1 .1 .1 .0, tt))))) in
+      let t = unrefused (step-tests list s lent p) refl .0 h in
+      let can = before-passed list s lent .0 (unrefused (before-pick list s lent) refl .1 (t .0, (t .1 .0, (t .1 .1 .0, (t .1 .1 .1 .0, tt))))) in
       (can, pick-passed list s p .0 (unrefused (pick-tests list s p) refl .1 (t .1 .1 .1 .1))),
-  λ h. step-tests-pick list s log p (h .0) ∙ pick-passed list s p .1 (h .1),
+  λ h. step-tests-pick list s lent p (h .0) ∙ pick-passed list s p .1 (h .1),
 )
 
-pub replay-passed : (list : List ℕ) (s : State) (log : List ℕ) → (refusal (before-replay list s log) ≡ 0) ↔ CanReplay list s log
-replay-passed list s log =
-    let tests = unrefused (before-replay list s log) refl in (
+pub replay-passed : (list : List ℕ) (s : State) (lent : Lent) → (refusal (before-replay list s lent) ≡ 0) ↔ CanReplay list s lent
+replay-passed list s lent =
+    let tests = unrefused (before-replay list s lent) refl in (
       λ h.
           let t = tests .0 h in
           record {
             of-list = not-false _ (t .0);
             of-state = not-false _ (t .1 .0);
             some-steps = omega (arith, eqb-false (s .m) 0 (t .1 .1 .0));
-            room = ltb-false (length log) (2 * (s .n + s .m)) (t .1 .1 .1 .0);
+            room = ltb-false (length (lent .log)) (2 * (s .n + s .m)) (t .1 .1 .1 .0);
             starts = not-false _ (t .1 .1 .1 .1 .0);
           },
       λ h. tests .1 (
@@ -135,18 +136,18 @@ replay-passed list s log =
           rw (h .of-state),
           (
             ne-eqb (s .m) 0 (omega (arith, h .some-steps)),
-            (le-ltb (length log) (2 * (s .n + s .m)) (h .room), (rw (h .starts), tt)),
+            (le-ltb (length (lent .log)) (2 * (s .n + s .m)) (h .room), (rw (h .starts), tt)),
           ),
         ),
       ),
     )
 
 -- where nothing refuses an undo before its replay, the replay decides
-pub undo-tests-replay : (list : List ℕ) (s : State) (log : List ℕ) → CanReplay list s log
-    → (refusal (undo-tests list s log) ≡ 0) ↔ (replayed list log (s .b) (s .m) .number ≡ 0)
-undo-tests-replay list s log can =
-    let tests = unrefused (undo-tests list s log) refl in
-    let before = unrefused (before-replay list s log) refl .0 (replay-passed list s log .1 can) in (
+pub undo-tests-replay : (list : List ℕ) (s : State) (lent : Lent) → CanReplay list s lent
+    → (refusal (undo-tests list s lent) ≡ 0) ↔ (replayed list (lent .log) (s .b) (s .m) .number ≡ 0)
+undo-tests-replay list s lent can =
+    let tests = unrefused (undo-tests list s lent) refl in
+    let before = unrefused (before-replay list s lent) refl .0 (replay-passed list s lent .1 can) in (
       λ h. eqb-true _ 0 (not-false _ (tests .0 h .1 .1 .1 .1 .1 .0)),
       λ e. tests .1 (
         before .0,
@@ -154,12 +155,12 @@ undo-tests-replay list s log can =
       ),
     )
 
-pub undo-passed : (list : List ℕ) (s : State) (log : List ℕ) → (refusal (undo-tests list s log) ≡ 0) ↔ CanUndo list s log
-undo-passed list s log = (
+pub undo-passed : (list : List ℕ) (s : State) (lent : Lent) → (refusal (undo-tests list s lent) ≡ 0) ↔ CanUndo list s lent
+undo-passed list s lent = (
   λ h.
-      let t = unrefused (undo-tests list s log) refl .0 h in
-      let can = replay-passed list s log .0
-      (unrefused (before-replay list s log) refl .1 (t .0, (t .1 .0, (t .1 .1 .0, (t .1 .1 .1 .0, (t .1 .1 .1 .1 .0, tt)))))) in
-      record { before = can; replays = undo-tests-replay list s log can .0 h },
-  λ h. undo-tests-replay list s log (h .before) .1 (h .replays),
+      let t = unrefused (undo-tests list s lent) refl .0 h in
+      let can = replay-passed list s lent .0
+      (unrefused (before-replay list s lent) refl .1 (t .0, (t .1 .0, (t .1 .1 .0, (t .1 .1 .1 .0, (t .1 .1 .1 .1 .0, tt)))))) in
+      record { before = can; replays = undo-tests-replay list s lent can .0 h },
+  λ h. undo-tests-replay list s lent (h .before) .1 (h .replays),
 )

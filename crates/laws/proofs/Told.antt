@@ -12,6 +12,7 @@ use Rattle.rules.specs.Words.{if_then_else_, among, Answer, answer, Test, _refu
 use Rattle.rules.specs.Names.{ROOM, LIST, STATE, FULL, COMPONENT, NOT-READY, TURN, RESET, ENDED}
 use Rattle.rules.specs.Records.{Pick}
 use Rattle.rules.specs.State.{State}
+use Rattle.rules.specs.Lent.{Lent}
 use Rattle.rules.specs.Ready.{Readiness, is-ready, has-ended, waits-at, is-absent, told, readiness, says-ready, says-ended, says-waiting, ready, ended, waiting, lowest}
 use Rattle.rules.specs.Step.{before-pick, pick-tests, step}
 use Rattle.rules.specs.Asked.{asked}
@@ -111,24 +112,24 @@ module _ (list : List ℕ) (s : State) (p : Pick) where
   unfolding ended waiting
   pick-told = rw (absent-is list s (p .station)) (by-case (readiness list s (p .station)) last-tests)
 
-module _ (list : List ℕ) (s : State) (log : List ℕ) (p : Pick) where
+module _ (list : List ℕ) (s : State) (lent : Lent) (p : Pick) where
   -- a number that neither the tests before the pick nor those after the readiness have
   step-told : (x : ℕ) → x ≢ 0 → among x (LIST ∷ STATE ∷ FULL ∷ ROOM ∷ []) ≡ false → among x (TURN ∷ RESET ∷ []) ≡ false
-      → (step list s log p .number ≡ x) ↔ (CanStep list s log × (told (readiness list s (p .station)) .number ≡ x))
+      → (step list s lent p .number ≡ x) ↔ (CanStep list s lent × (told (readiness list s (p .station)) .number ≡ x))
   step-told x some not-before not-after = (
     λ h.
-        by-test (eqb (refusal (before-pick list s log)) 0)
+        by-test (eqb (refusal (before-pick list s lent)) 0)
         (λ e.
-        let can = before-passed list s log .0 (eqb-true _ 0 e) in
-        let number : refusal (pick-tests list s p) ≡ x = sym (step-tests-pick list s log p can) ∙ sym (step-number list s log p) ∙ h in
+        let can = before-passed list s lent .0 (eqb-true _ 0 e) in
+        let number : refusal (pick-tests list s p) ≡ x = sym (step-tests-pick list s lent p can) ∙ sym (step-number list s lent p) ∙ h in
         (can, decided number))
         (λ e.
-        let refused = eqb-false (refusal (before-pick list s log)) 0 e in
-        let number : refusal (before-pick list s log) ≡ x =
-        sym (ap (λ (a : Answer). a .number) (judge-before (before-pick list s log) (pick-tests list s p) refused)) ∙ sym (step-number list s log p) ∙ h in
-        absurd (false≢true (sym not-before ∙ rw number at (one-of-numbers (before-pick list s log) refused)))),
+        let refused = eqb-false (refusal (before-pick list s lent)) 0 e in
+        let number : refusal (before-pick list s lent) ≡ x =
+        sym (ap (λ (a : Answer). a .number) (judge-before (before-pick list s lent) (pick-tests list s p) refused)) ∙ sym (step-number list s lent p) ∙ h in
+        absurd (false≢true (sym not-before ∙ rw number at (one-of-numbers (before-pick list s lent) refused)))),
     λ h.
-        step-number list s log p ∙ step-tests-pick list s log p (h .0) ∙ pick-told list s p
+        step-number list s lent p ∙ step-tests-pick list s lent p (h .0) ∙ pick-told list s p
         ∙ rw (h .1) (by-test (eqb x 0) (λ e. absurd (some (eqb-true x 0 e))) (λ e. rw e)),
   )
     where
@@ -140,13 +141,13 @@ module _ (list : List ℕ) (s : State) (log : List ℕ) (p : Pick) where
           absurd (false≢true (sym not-after ∙ rw last at (one-of-numbers (last-tests list s p) (λ z. some (sym last ∙ z))))))
           (λ e. sym (rw e at (pick-told list s p)) ∙ number)
 
-pub step-tells : (list : List ℕ) (s : State) (log : List ℕ) (p : Pick) → StepTells ruled list s log p
+pub step-tells : (list : List ℕ) (s : State) (lent : Lent) (p : Pick) → StepTells ruled list s lent p
 unfolding ended waiting
-step-tells list s log p =
+step-tells list s lent p =
     let r = readiness list s (p .station) in
-    let ends = step-told list s log p ENDED (λ z. omega arith) refl refl in
-    let waits = step-told list s log p NOT-READY (λ z. omega arith) refl refl in
-    let none = step-told list s log p COMPONENT (λ z. omega arith) refl refl in
+    let ends = step-told list s lent p ENDED (λ z. omega arith) refl refl in
+    let waits = step-told list s lent p NOT-READY (λ z. omega arith) refl refl in
+    let none = step-told list s lent p COMPONENT (λ z. omega arith) refl refl in
     let ended-number = by-number (ended-by r) in
     let waiting-number = by-number (waiting-by r) in
     let absent-number = by-number (absent-by r) in
@@ -176,8 +177,8 @@ asked-tells list s j known =
       ended-when = rw so (by-answer r ENDED (λ z. omega arith) (ended-by r));
       waiting-when = λ p. rw so (λ h. waits-where list s j p .0 (waiting-told r p .0 h), λ h. waiting-told r p .1 (waits-where list s j p .1 h));
       none-when = rw so (λ h. absent-means list s j .0 (none .0 h), λ h. none .1 (absent-means list s j .1 h));
-      step-refused = λ log reset can held.
+      step-refused = λ lent reset can held.
           let p : Pick = record { station = j; reset = reset } in
           let same = ap (λ (a : Answer). a .number) so in
-          step-number list s log p ∙ step-tests-pick list s log p can ∙ pick-told list s p ∙ rw (same, ne-eqb _ 0 (λ z. held (same ∙ z)));
+          step-number list s lent p ∙ step-tests-pick list s lent p can ∙ pick-told list s p ∙ rw (same, ne-eqb _ 0 (λ z. held (same ∙ z)));
     }

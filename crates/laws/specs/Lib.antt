@@ -2,3 +2,4 @@ pub mod Passed
 pub mod Tells
 pub mod Number
 pub mod Narrow
+pub mod Parts

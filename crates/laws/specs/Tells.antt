@@ -10,6 +10,7 @@ use Rattle.rules.specs.Names.{AWAIT, STOP, COMPONENT, NOT-READY, ENDED}
 use Rattle.rules.specs.Records.{ListRecord, Pick}
 use Rattle.rules.specs.Values.{holds}
 use Rattle.rules.specs.State.{State, position}
+use Rattle.rules.specs.Lent.{Lent}
 use Rattle.rules.specs.Ready.{next-step, is-absent, waits-at, readiness, ready, ended, waiting}
 use Rattle.rules.specs.Step.{step}
 use Rattle.rules.specs.Asked.{asked}
@@ -47,10 +48,10 @@ pub record ReadinessTells (list : List ℕ) (s : State) : Type 0 where
 
 -- of any seven calls: where none of 7, 8, 9 and 6 refuses a step, it answers 16 exactly where its station has ended, 11 exactly where it
 -- waits, and 10 exactly where there is none
-pub record StepTells (bench : Seven) (list : List ℕ) (s : State) (log : List ℕ) (p : Pick) : Type 0 where
-  pub ended-when : (bench .step list s log p .number ≡ ENDED) ↔ (CanStep list s log × (ended list s (p .station) ≡ true))
-  pub waiting-when : (bench .step list s log p .number ≡ NOT-READY) ↔ (CanStep list s log × (waiting list s (p .station) ≡ true))
-  pub none-when : (bench .step list s log p .number ≡ COMPONENT) ↔ (CanStep list s log × (s .n ≤ p .station))
+pub record StepTells (bench : Seven) (list : List ℕ) (s : State) (lent : Lent) (p : Pick) : Type 0 where
+  pub ended-when : (bench .step list s lent p .number ≡ ENDED) ↔ (CanStep list s lent × (ended list s (p .station) ≡ true))
+  pub waiting-when : (bench .step list s lent p .number ≡ NOT-READY) ↔ (CanStep list s lent × (waiting list s (p .station) ≡ true))
+  pub none-when : (bench .step list s lent p .number ≡ COMPONENT) ↔ (CanStep list s lent × (s .n ≤ p .station))
 
 -- a panel that asks, of a sound list and state, is told the station's case and no other; and where it is told another number than 0, a step
 -- that picks the station is refused with that number
@@ -59,5 +60,5 @@ pub record AskedTells (list : List ℕ) (s : State) (j : ℕ) : Type 0 where
   pub ended-when : (asked list s j ≡ answer ENDED 0) ↔ (ended list s j ≡ true)
   pub waiting-when : (p : ℕ) → (asked list s j ≡ answer NOT-READY p) ↔ ((waiting list s j ≡ true) × (p ≡ position s j))
   pub none-when : (asked list s j ≡ answer COMPONENT 0) ↔ (s .n ≤ j)
-  pub step-refused : (log : List ℕ) (reset : ℕ) → CanStep list s log → asked list s j .number ≢ 0
-      → step list s log (record { station = j; reset = reset }) .number ≡ asked list s j .number
+  pub step-refused : (lent : Lent) (reset : ℕ) → CanStep list s lent → asked list s j .number ≢ 0
+      → step list s lent (record { station = j; reset = reset }) .number ≡ asked list s j .number

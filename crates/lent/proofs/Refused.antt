@@ -5,6 +5,7 @@ use mathlib.Core.List.{List}
 use Prim.Native.Nat.{ℕ}
 use lib.Dec.{T as Holds, eqb}
 use Rattle.rules.specs.Records.{Pick}
+use Rattle.rules.specs.Lent.{Lent}
 use Rattle.rules.specs.State as rules-state
 use Rattle.rules.specs.Step as rules
 use Rattle.laws.proofs.Answers.{step-refused}
@@ -19,9 +20,9 @@ fails true t = absurd t
 fails false t = refl
 
 -- where the number of a step's answer is not 0, the step leaves the state that it was given
-pub stays : (s : State) (list log : List ℕ) (p : Pick) (r : Outcome) (after : List ℕ) → StepPromise list (as-state s) log p r after
-    → Holds (not (eqb (r .number) 0)) → AdvancePromise list (as-state s) log p (r .number) s after
-stays s list log p r after e t =
+pub stays : (s : State) (list : List ℕ) (lent : Lent) (p : Pick) (r : Outcome) (after : Lent) → StepPromise list (as-state s) lent p r after
+    → Holds (not (eqb (r .number) 0)) → AdvancePromise list (as-state s) lent p (r .number) s after
+stays s list lent p r after e t =
     let number = ap (λ (a : rules.Stepped). a .number) e in
-    let given = step-refused list (as-state s) log p (rw (← number) (fails _ t)) in
-    ap (λ (x : rules-state.State). record { number = r .number; state = x; log = after }) (sym given ∙ sym (ap (λ (a : rules.Stepped). a .state) e)) ∙ e
+    let given = step-refused list (as-state s) lent p (rw (← number) (fails _ t)) in
+    ap (λ (x : rules-state.State). record { number = r .number; state = x; lent = after }) (sym given ∙ sym (ap (λ (a : rules.Stepped). a .state) e)) ∙ e

@@ -6,7 +6,7 @@ use run::State;
 // One step of the state lent, by the pick of a station and its reset. It answers 0 or the number of the refusal. A step taken leaves the
 // later state in its place and writes its record to the log; a refusal leaves the state and the log as they were.
 pub fn advance(state: &mut State, list: &[u8], log: &mut [u8], station: u8, reset: u8) -> u8
-    ensures { λ r. ⌜ AdvancePromise (now (list .entry)) (as-state (now (state .entry))) (now (log .entry)) (record { station = station; reset = reset }) r (now (state .exit)) (now (log .exit)) ⌝ }
+    ensures { λ r. ⌜ AdvancePromise (now (list .entry)) (as-state (now (state .entry))) (record { log = now (log .entry) }) (record { station = station; reset = reset }) r (now (state .exit)) (record { log = now (log .exit) }) ⌝ }
 {
     let taken = state.step(list, log, station, reset);
     if taken.number == 0 {

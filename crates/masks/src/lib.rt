@@ -57,7 +57,7 @@ impl Masks {
             let e = ListRecord::at(list, place as usize);
             let case = Readiness::at(vars, e, place);
             let ready = all[j];
-            let in_turn = ready && stations::lowest_of(all, priorities, given, j);
+            let in_turn = ready && turns::lowest_of(all, priorities, given, j);
             masks = masks.with_station(case, in_turn, Touched::of(list, e, ready));
         }
         masks

@@ -34,7 +34,7 @@ pub extern "C" fn press_build(file: &[u8], list: &mut [u8]) -> Built
 // The start of a run, with its start records in the log. A refusal answers a state of zeros and leaves the log as it was.
 #[no_mangle]
 pub extern "C" fn press_start(list: &[u8], b: u8, resets: &[u8], log: &mut [u8]) -> Outcome
-    ensures { λ r. ⌜ StartPromise (now (list .entry)) b (now (resets .entry)) (now (log .entry)) r (now (log .exit)) ⌝ }
+    ensures { λ r. ⌜ StartPromise (now (list .entry)) b (now (resets .entry)) (record { log = now (log .entry) }) r (record { log = now (log .exit) }) ⌝ }
 {
     run::start(list, b, resets, log)
 }
@@ -49,7 +49,7 @@ pub extern "C" fn press_step(
     station: u8,
     reset: u8,
 ) -> Outcome
-    ensures { λ r. ⌜ StepPromise (now (list .entry)) (as-state state) (now (log .entry)) (record { station = station; reset = reset }) r (now (log .exit)) ⌝ }
+    ensures { λ r. ⌜ StepPromise (now (list .entry)) (as-state state) (record { log = now (log .entry) }) (record { station = station; reset = reset }) r (record { log = now (log .exit) }) ⌝ }
 {
     state.step(list, log, station, reset)
 }
@@ -64,7 +64,7 @@ pub extern "C" fn press_advance(
     station: u8,
     reset: u8,
 ) -> u8
-    ensures { λ r. ⌜ AdvancePromise (now (list .entry)) (as-state (now (state .entry))) (now (log .entry)) (record { station = station; reset = reset }) r (now (state .exit)) (now (log .exit)) ⌝ }
+    ensures { λ r. ⌜ AdvancePromise (now (list .entry)) (as-state (now (state .entry))) (record { log = now (log .entry) }) (record { station = station; reset = reset }) r (now (state .exit)) (record { log = now (log .exit) }) ⌝ }
 {
     lent::advance(state, list, log, station, reset)
 }
@@ -79,7 +79,7 @@ pub extern "C" fn press_run(
     picks: &[u8],
     most: usize,
 ) -> Ran
-    ensures { λ r. ⌜ RunPromise (now (list .entry)) (as-state state) (now (log .entry)) (now (picks .entry)) most r (now (log .exit)) ⌝ }
+    ensures { λ r. ⌜ RunPromise (now (list .entry)) (as-state state) (record { log = now (log .entry) }) (now (picks .entry)) most r (record { log = now (log .exit) }) ⌝ }
 {
     state.run(list, log, picks, most)
 }
@@ -87,7 +87,7 @@ pub extern "C" fn press_run(
 // The state before the last step, by the log, which stays. A refusal answers the state given.
 #[no_mangle]
 pub extern "C" fn press_undo(state: State, list: &[u8], log: &[u8]) -> Outcome
-    ensures { λ r. ⌜ UndoPromise (now (list .entry)) (as-state state) (now (log .entry)) r ⌝ }
+    ensures { λ r. ⌜ UndoPromise (now (list .entry)) (as-state state) (record { log = now (log .entry) }) r ⌝ }
 {
     state.undo(list, log)
 }

@@ -31,7 +31,7 @@ pub fn pick(
     } else {
         stations::told_from(list, vars, positions[at])
     };
-    let number = stations::pick_refusal(told, lowest, b < reset);
+    let number = turns::pick_refusal(told, lowest, b < reset);
     if number != 0 {
         return number;
     }

@@ -24,7 +24,7 @@ pub fn wrong(picks: &[u8]) -> bool
 
 // One pick: (255, 0) takes the last step back, any other is a step.
 pub fn taken(state: State, list: &[u8], log: &mut [u8], station: u8, reset: u8) -> Outcome
-    ensures { λ r. ⌜ as-stepped r (now (log .exit)) ≡ taken-pick (now (list .entry)) (as-state state) (now (log .entry)) (record { station = station; reset = reset }) ⌝ }
+    ensures { λ r. ⌜ as-stepped r (record { log = now (log .exit) }) ≡ taken-pick (now (list .entry)) (as-state state) (record { log = now (log .entry) }) (record { station = station; reset = reset }) ⌝ }
 {
     if station == UNDO {
         if reset == 0 {

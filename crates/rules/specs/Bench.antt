@@ -10,8 +10,8 @@ use mathlib.Core.Option.{Option, none, some}
 use lib.ListN.{length, take, replicate}
 use lib.IntN.{ℤ, pos, negsuc}
 use Rattle.rules.specs.Words.{Answer, answer, each, first, tally, mask, values, changed, written, judge}
-use Rattle.rules.specs.Names.{LENGTH, FIELD, SHAPE, COMPONENT, NOT-READY, TURN, RESET, ENDED, STATION, SKIP, SET, IF, ELSE, FI, WHILE, OD, AWAIT, END, variables, max-stations, max-list}
-use Rattle.rules.specs.Records.{record-from, record-at, word-bytes, list-record-at}
+use Rattle.rules.specs.Names.{LENGTH, FIELD, SHAPE, COMPONENT, NOT-READY, TURN, RESET, ENDED, STATION, SKIP, SET, IF, ELSE, FI, WHILE, OD, AWAIT, END, variables, max-stations}
+use Rattle.rules.specs.Records.{record-from, record-at, record-count, word-bytes, list-record-at}
 use Rattle.rules.specs.Fields.{rules-of, fields-right}
 use Rattle.rules.specs.Shape.{stride, wrong-at, walked, well-shaped, too-deep-at}
 use Rattle.rules.specs.Check.{check, wrong-length, field-place, station-count, depth-place}
@@ -41,16 +41,16 @@ eight kind a b op k = (kind ∷ a ∷ b ∷ op ∷ []) ++ word-bytes k
 abbrev plain : ℕ → List ℕ
 plain kind = eight kind 0 0 0 0
 
--- a built list of these records, written into a buffer of the largest list's size
+-- a built list of these records, written into a buffer with room for as many as the file has and one more for each station
 abbrev list-made : List ℕ → List ℕ
-list-made file = let built = build file (replicate (16 * max-list) 0) in take (16 * built .count) (built .buffer)
+list-made file = let built = build file (replicate (16 * (record-count file + max-stations)) 0) in take (16 * built .count) (built .buffer)
 
 -- a log with room for ten steps, whose bytes are none that a call writes; and a caller with no state yet
 abbrev junk : List ℕ
 junk = replicate 24 7
 
 abbrev fresh : Now
-fresh = record { state = zeros; log = junk; standing = none }
+fresh = record { state = zeros; lent = record { log = junk }; standing = none }
 
 -- what a call answers: its number, and the last state answered after it
 record Answered : Type 0 where

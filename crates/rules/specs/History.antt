@@ -7,10 +7,11 @@ use lib.Dec.{eqb}
 use Rattle.rules.specs.Words.{if_then_else_}
 use Rattle.rules.specs.Records.{Pick, pick-at, pick-bytes}
 use Rattle.rules.specs.State.{State}
+use Rattle.rules.specs.Lent.{Lent}
 use Rattle.rules.specs.Start.{start-records}
 use Rattle.rules.specs.Calls.{Seven}
 
--- a call, with all that it is given but the list, the log and the state
+-- a call, with all that it is given but the list, the state and what is lent
 pub data Call : Type 0 where
   -- a file
   CHECK : List ℕ → Call
@@ -62,19 +63,19 @@ popped none = none
 popped (some (begun b resets s)) = none
 popped (some (taken steps p s)) = some steps
 
--- how things are between two calls: the last state answered, what the log holds, and what stands
+-- how things are between two calls: the last state answered, what is lent as the calls left it, and what stands
 pub record Now : Type 0 where
   pub state : State
-  pub log : List ℕ
+  pub lent : Lent
   pub standing : Option Steps
 
 -- one step: not refused, it goes on top of what stands
 unfoldable pub stepped-on : Seven → List ℕ → Now → Pick → Now
 stepped-on bench list now p =
-    let a = bench .step list (now .state) (now .log) p in
+    let a = bench .step list (now .state) (now .lent) p in
     record {
       state = a .state;
-      log = a .log;
+      lent = a .lent;
       standing = if eqb (a .number) 0 then pushed (now .standing) p (a .state) else now .standing;
     }
 
@@ -89,21 +90,21 @@ unfoldable pub called : Seven → List ℕ → Now → Call → Now
 called bench list now (CHECK file) = now
 called bench list now (BUILD file buffer) = now
 called bench list now (START b resets) =
-    let a = bench .start list b resets (now .log) in
+    let a = bench .start list b resets (now .lent) in
     record {
       state = if eqb (a .number) 0 then a .state else now .state;
-      log = a .log;
+      lent = a .lent;
       standing = if eqb (a .number) 0 then some (begun b resets (a .state)) else now .standing;
     }
 called bench list now (STEP p) = stepped-on bench list now p
 called bench list now (RUN picks most) =
-    let a = bench .run list (now .state) (now .log) picks most in
-    record { state = a .state; log = a .log; standing = single-steps bench list picks 0 (a .steps) now .standing }
+    let a = bench .run list (now .state) (now .lent) picks most in
+    record { state = a .state; lent = a .lent; standing = single-steps bench list picks 0 (a .steps) now .standing }
 called bench list now UNDO =
-    let a = bench .undo list (now .state) (now .log) in
+    let a = bench .undo list (now .state) (now .lent) in
     record {
       state = a .state;
-      log = now .log;
+      lent = now .lent;
       standing = if eqb (a .number) 0 then popped (now .standing) else now .standing;
     }
 called bench list now LIGHTS = now
@@ -113,16 +114,16 @@ unfoldable pub calls-from : Seven → List ℕ → Now → List Call → Now
 calls-from bench list now [] = now
 calls-from bench list now (c ∷ cs) = calls-from bench list (called bench list now c) cs
 
--- a history: at first nothing stands, the log holds whatever it holds, and the caller has whatever state
-abbrev pub history : Seven → List ℕ → State → List ℕ → List Call → Now
-history bench list s log = calls-from bench list (record { state = s; log = log; standing = none })
+-- a history: at first nothing stands, what is lent holds whatever it holds, and the caller has whatever state
+abbrev pub history : Seven → List ℕ → State → Lent → List Call → Now
+history bench list s lent = calls-from bench list (record { state = s; lent = lent; standing = none })
 
 -- the number that a call answers, 0 or a refusal's
 abbrev pub answered : Seven → List ℕ → Now → Call → ℕ
 answered bench list now (CHECK file) = bench .check file .number
 answered bench list now (BUILD file buffer) = bench .build file buffer .number
-answered bench list now (START b resets) = bench .start list b resets (now .log) .number
-answered bench list now (STEP p) = bench .step list (now .state) (now .log) p .number
-answered bench list now (RUN picks most) = bench .run list (now .state) (now .log) picks most .number
-answered bench list now UNDO = bench .undo list (now .state) (now .log) .number
+answered bench list now (START b resets) = bench .start list b resets (now .lent) .number
+answered bench list now (STEP p) = bench .step list (now .state) (now .lent) p .number
+answered bench list now (RUN picks most) = bench .run list (now .state) (now .lent) picks most .number
+answered bench list now UNDO = bench .undo list (now .state) (now .lent) .number
 answered bench list now LIGHTS = bench .lights list (now .state) .number

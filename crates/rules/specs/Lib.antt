@@ -9,6 +9,7 @@ pub mod Trees
 pub mod Build
 pub mod List
 pub mod State
+pub mod Lent
 pub mod Values
 pub mod Start
 pub mod Turn

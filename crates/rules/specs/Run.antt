@@ -9,25 +9,26 @@ use Rattle.rules.specs.Names.{LENGTH, LIST, STATE}
 use Rattle.rules.specs.Records.{pick-at}
 use Rattle.rules.specs.List.{sound-list}
 use Rattle.rules.specs.State.{State, sound-state}
+use Rattle.rules.specs.Lent.{Lent}
 use Rattle.rules.specs.Step.{step}
 
--- "answers the state, the steps taken and the refusal or 0", and what the log then holds
+-- "answers the state, the steps taken and the refusal or 0", and what is lent as the steps leave it
 pub record Ran : Type 0 where
   pub number : ℕ
   pub state : State
   pub steps : ℕ
-  pub log : List ℕ
+  pub lent : Lent
 
 abbrev pub one-more : Ran → Ran
-one-more r = record { number = r .number; state = r .state; steps = suc (r .steps); log = r .log }
+one-more r = record { number = r .number; state = r .state; steps = suc (r .steps); lent = r .lent }
 
 -- so many picks, from record i on
-unfoldable pub steps-from : List ℕ → List ℕ → ℕ → ℕ → State → List ℕ → Ran
-steps-from list picks i zero s log = record { number = 0; state = s; steps = 0; log = log }
-steps-from list picks i (suc count) s log =
-    let a = step list s log (pick-at picks i) in
-    if eqb (a .number) 0 then one-more (steps-from list picks (suc i) count (a .state) (a .log))
-    else record { number = a .number; state = s; steps = 0; log = log }
+unfoldable pub steps-from : List ℕ → List ℕ → ℕ → ℕ → State → Lent → Ran
+steps-from list picks i zero s lent = record { number = 0; state = s; steps = 0; lent = lent }
+steps-from list picks i (suc count) s lent =
+    let a = step list s lent (pick-at picks i) in
+    if eqb (a .number) 0 then one-more (steps-from list picks (suc i) count (a .state) (a .lent))
+    else record { number = a .number; state = s; steps = 0; lent = lent }
 
 -- "Odd length is LENGTH, tested first; then LIST and STATE, tested once even when no step is allowed"
 abbrev pub run-tests : List ℕ → State → List ℕ → List Test
@@ -38,8 +39,8 @@ run-tests list s picks =
     ∷ []
 
 -- "RUN takes picks as two-byte records and a most-steps number"
-unfoldable pub run : List ℕ → State → List ℕ → List ℕ → ℕ → Ran
-run list s log picks most =
+unfoldable pub run : List ℕ → State → Lent → List ℕ → ℕ → Ran
+run list s lent picks most =
     let number = refusal (run-tests list s picks) in
-    if eqb number 0 then steps-from list picks 0 (min most (length picks / 2)) s log
-    else record { number = number; state = s; steps = 0; log = log }
+    if eqb number 0 then steps-from list picks 0 (min most (length picks / 2)) s lent
+    else record { number = number; state = s; steps = 0; lent = lent }

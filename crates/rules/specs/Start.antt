@@ -11,6 +11,7 @@ use Rattle.rules.specs.Records.{list-record-at}
 use Rattle.rules.specs.List.{stations, initials, sound-list}
 use Rattle.rules.specs.Values.{assigned}
 use Rattle.rules.specs.State.{State, stepless, zeros}
+use Rattle.rules.specs.Lent.{Lent}
 
 -- variables "begin at 0": so many initial records are run, from a place on
 unfoldable pub initial-run : List ℕ → ℕ → ℕ → List ℕ → List ℕ
@@ -33,27 +34,31 @@ unfoldable pub start-records : ℕ → List ℕ → List ℕ
 start-records j [] = []
 start-records j (reset ∷ resets) = j ∷ reset ∷ start-records (suc j) resets
 
+-- START writes them at the log's beginning
+abbrev pub with-starts : Lent → List ℕ → Lent
+with-starts lent resets = record { log = written (lent .log) 0 (start-records 0 resets) }
+
 pub record Started : Type 0 where
   pub number : ℕ
   pub state : State
-  pub log : List ℕ
+  pub lent : Lent
 
 -- "count not n or one above B"
 abbrev pub wrong-resets : List ℕ → ℕ → List ℕ → Bool
 wrong-resets list b resets = not (eqb (length resets) (stations list)) || not (each (λ j. leb (getD resets j 0) b) (length resets))
 
 -- "START takes the list, B, exactly n reset bytes and a log buffer." Its order is 7, 13, 6
-abbrev pub start-tests : List ℕ → ℕ → List ℕ → List ℕ → List Test
-start-tests list b resets log =
+abbrev pub start-tests : List ℕ → ℕ → List ℕ → Lent → List Test
+start-tests list b resets lent =
     (not (sound-list list) refuses LIST at 0)
     ∷ (wrong-resets list b resets refuses RESET at 0)
-    ∷ (ltb (length log) (2 * stations list) refuses ROOM at 0)
+    ∷ (ltb (length (lent .log)) (2 * stations list) refuses ROOM at 0)
     ∷ []
 
 -- "A refusal answers its number and … (start and lights: all zeros) and writes to no lent buffer"
-unfoldable pub start : List ℕ → ℕ → List ℕ → List ℕ → Started
-start list b resets log =
-    let number = refusal (start-tests list b resets log) in
+unfoldable pub start : List ℕ → ℕ → List ℕ → Lent → Started
+start list b resets lent =
+    let number = refusal (start-tests list b resets lent) in
     if eqb number 0
-    then record { number = 0; state = started list b resets; log = written log 0 (start-records 0 resets) }
-    else record { number = number; state = zeros; log = log }
+    then record { number = 0; state = started list b resets; lent = with-starts lent resets }
+    else record { number = number; state = zeros; lent = lent }

@@ -10,6 +10,7 @@ use Rattle.rules.specs.Names.{LIST, STATE, FULL, ROOM, COMPONENT, ENDED,
 use Rattle.rules.specs.Records.{Pick, pick-bytes}
 use Rattle.rules.specs.List.{sound-list}
 use Rattle.rules.specs.State.{State, one-step-on, sound-state}
+use Rattle.rules.specs.Lent.{Lent}
 use Rattle.rules.specs.Turn.{charge-of}
 use Rattle.rules.specs.Ready.{ready, ended, waiting, lowest}
 use Rattle.rules.specs.Move.{moved}
@@ -44,28 +45,33 @@ picked list s p =
     let number = refusal (pick-tests list s p) in
     if eqb number 0 then record { number = 0; state = stepped list s p } else record { number = number; state = s }
 
+-- the room for one step more, in the steps and in what is lent: 9, 6
+abbrev pub room-tests : State → Lent → List Test
+room-tests s lent =
+    (eqb (s .m) max-steps refuses FULL at 0) ∷ (ltb (length (lent .log)) (2 * (s .n + s .m + 1)) refuses ROOM at 0) ∷ []
+
 -- "Step's order is 7, 8, 9, 6, 10, 11, 12, 13", with document 02's 16 "just before 11": what is tested before the pick
-abbrev pub before-pick : List ℕ → State → List ℕ → List Test
-before-pick list s log =
-    (not (sound-list list) refuses LIST at 0)
-    ∷ (not (sound-state list s) refuses STATE at 0)
-    ∷ (eqb (s .m) max-steps refuses FULL at 0)
-    ∷ (ltb (length log) (2 * (s .n + s .m + 1)) refuses ROOM at 0)
-    ∷ []
+abbrev pub before-pick : List ℕ → State → Lent → List Test
+before-pick list s lent =
+    (not (sound-list list) refuses LIST at 0) ∷ (not (sound-state list s) refuses STATE at 0) ∷ room-tests s lent
 
 -- and all
-abbrev pub step-tests : List ℕ → State → List ℕ → Pick → List Test
-step-tests list s log p = before-pick list s log ++ pick-tests list s p
+abbrev pub step-tests : List ℕ → State → Lent → Pick → List Test
+step-tests list s lent p = before-pick list s lent ++ pick-tests list s p
 
 pub record Stepped : Type 0 where
   pub number : ℕ
   pub state : State
-  pub log : List ℕ
+  pub lent : Lent
 
--- "one per step at byte 2(n+m)"; "A refusal answers its number and the state given … and writes to no lent buffer"
-unfoldable pub step : List ℕ → State → List ℕ → Pick → Stepped
-step list s log p =
-    let number = refusal (step-tests list s log p) in
+-- "one per step at byte 2(n+m)"
+abbrev pub with-pick : Lent → State → Pick → Lent
+with-pick lent s p = record { log = written (lent .log) (2 * (s .n + s .m)) (pick-bytes p) }
+
+-- "A refusal answers its number and the state given … and writes to no lent buffer"
+unfoldable pub step : List ℕ → State → Lent → Pick → Stepped
+step list s lent p =
+    let number = refusal (step-tests list s lent p) in
     if eqb number 0
-    then record { number = 0; state = picked list s p .state; log = written log (2 * (s .n + s .m)) (pick-bytes p) }
-    else record { number = number; state = s; log = log }
+    then record { number = 0; state = picked list s p .state; lent = with-pick lent s p }
+    else record { number = number; state = s; lent = lent }

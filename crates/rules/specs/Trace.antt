@@ -10,6 +10,7 @@ use Rattle.rules.specs.Names.{LENGTH, RESET, max-list, max-stations, max
 use Rattle.rules.specs.Records.{Pick, pick-at}
 use Rattle.rules.specs.Build.{build}
 use Rattle.rules.specs.State.{State, priority}
+use Rattle.rules.specs.Lent.{Lent}
 use Rattle.rules.specs.Start.{start}
 use Rattle.rules.specs.Step.{Stepped, step}
 use Rattle.rules.specs.Undo.{undo}
@@ -45,18 +46,18 @@ unfoldable pub end-line : ℕ → List ℕ
 end-line number = (101 ∷ 110 ∷ 100 ∷ 32 ∷ []) ++ decimal number ++ (10 ∷ [])
 
 -- "Pick (255,0) means undo"
-unfoldable pub taken-pick : List ℕ → State → List ℕ → Pick → Stepped
-taken-pick list s log p =
+unfoldable pub taken-pick : List ℕ → State → Lent → Pick → Stepped
+taken-pick list s lent p =
     if eqb (p .station) undo-station && eqb (p .reset) 0
-    then record { number = undo list s log .number; state = undo list s log .state; log = log }
-    else step list s log p
+    then record { number = undo list s lent .number; state = undo list s lent .state; lent = lent }
+    else step list s lent p
 
 -- so many picks, from record i on: a line "after each call taken", and the last line
-unfoldable pub picks-text : List ℕ → List ℕ → ℕ → ℕ → State → List ℕ → List ℕ
-picks-text list picks i zero s log = end-line 0
-picks-text list picks i (suc count) s log =
-    let a = taken-pick list s log (pick-at picks i) in
-    if eqb (a .number) 0 then line list (a .state) ++ picks-text list picks (suc i) count (a .state) (a .log)
+unfoldable pub picks-text : List ℕ → List ℕ → ℕ → ℕ → State → Lent → List ℕ
+picks-text list picks i zero s lent = end-line 0
+picks-text list picks i (suc count) s lent =
+    let a = taken-pick list s lent (pick-at picks i) in
+    if eqb (a .number) 0 then line list (a .state) ++ picks-text list picks (suc i) count (a .state) (a .lent)
     else end-line (a .number)
 
 -- "a picks file odd or over 8,192 bytes: `end 1` after the start line"
@@ -64,16 +65,16 @@ abbrev pub wrong-picks : List ℕ → Bool
 wrong-picks picks = eqb (length picks % 2) 1 || ltb (2 * max-steps) (length picks)
 
 -- after the start
-unfoldable pub run-text : List ℕ → List ℕ → State → List ℕ → List ℕ
-run-text list picks s log =
-    line list s ++ (if wrong-picks picks then end-line LENGTH else picks-text list picks 0 (length picks / 2) s log)
+unfoldable pub run-text : List ℕ → List ℕ → State → Lent → List ℕ
+run-text list picks s lent =
+    line list s ++ (if wrong-picks picks then end-line LENGTH else picks-text list picks 0 (length picks / 2) s lent)
 
 -- "start.rec (B, then resets)"; "no B: 13"
 unfoldable pub start-text : List ℕ → List ℕ → List ℕ → List ℕ
 start-text list [] picks = end-line RESET
 start-text list (b ∷ resets) picks =
-    let a = start list b resets (replicate (2 * (max-stations + max-steps)) 0) in
-    if eqb (a .number) 0 then run-text list picks (a .state) (a .log) else end-line (a .number)
+    let a = start list b resets (record { log = replicate (2 * (max-stations + max-steps)) 0 }) in
+    if eqb (a .number) 0 then run-text list picks (a .state) (a .lent) else end-line (a .number)
 
 -- "Program refusals come first"; "Its own list and log buffers are never short"
 unfoldable pub trace : List ℕ → List ℕ → List ℕ → List ℕ

@@ -9,6 +9,7 @@ use Rattle.rules.specs.Names.{LIST, STATE, EMPTY, LOG}
 use Rattle.rules.specs.Records.{pick-at}
 use Rattle.rules.specs.List.{stations, sound-list}
 use Rattle.rules.specs.State.{State, sound-state}
+use Rattle.rules.specs.Lent.{Lent}
 use Rattle.rules.specs.Start.{started}
 use Rattle.rules.specs.Step.{picked}
 
@@ -36,26 +37,26 @@ replayed list log b m =
 
 -- "undo: log under 2(n+m) bytes, a start record out of place or above B, or a replay refused". Undo's order is 7, 8, 14, 15: what is
 -- tested before the replay
-abbrev pub before-replay : List ℕ → State → List ℕ → List Test
-before-replay list s log =
+abbrev pub before-replay : List ℕ → State → Lent → List Test
+before-replay list s lent =
     (not (sound-list list) refuses LIST at 0)
     ∷ (not (sound-state list s) refuses STATE at 0)
     ∷ (eqb (s .m) 0 refuses EMPTY at 0)
-    ∷ (ltb (length log) (2 * (s .n + s .m)) refuses LOG at 0)
-    ∷ (not (starts-right list (s .b) log) refuses LOG at 0)
+    ∷ (ltb (length (lent .log)) (2 * (s .n + s .m)) refuses LOG at 0)
+    ∷ (not (starts-right list (s .b) (lent .log)) refuses LOG at 0)
     ∷ []
 
 -- the replay's own
-abbrev pub replay-tests : List ℕ → State → List ℕ → List Test
-replay-tests list s log = (not (eqb (replayed list log (s .b) (s .m) .number) 0) refuses LOG at 0) ∷ []
+abbrev pub replay-tests : List ℕ → State → Lent → List Test
+replay-tests list s lent = (not (eqb (replayed list (lent .log) (s .b) (s .m) .number) 0) refuses LOG at 0) ∷ []
 
 -- and all
-abbrev pub undo-tests : List ℕ → State → List ℕ → List Test
-undo-tests list s log = before-replay list s log ++ replay-tests list s log
+abbrev pub undo-tests : List ℕ → State → Lent → List Test
+undo-tests list s lent = before-replay list s lent ++ replay-tests list s lent
 
 -- "it leaves the log", which is why nothing is said of it here
-unfoldable pub undo : List ℕ → State → List ℕ → Undone
-undo list s log =
-    let number = refusal (undo-tests list s log) in
-    if eqb number 0 then record { number = 0; state = replayed list log (s .b) (s .m) .state }
+unfoldable pub undo : List ℕ → State → Lent → Undone
+undo list s lent =
+    let number = refusal (undo-tests list s lent) in
+    if eqb number 0 then record { number = 0; state = replayed list (lent .log) (s .b) (s .m) .state }
     else record { number = number; state = s }

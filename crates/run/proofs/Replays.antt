@@ -1,19 +1,18 @@
--- The steps of a replay, one at a time; and what an undo asks of the start records, at the number of stations that the state has. Assumes
--- nothing.
-use Prim.Native.Nat.{ℕ, zero, suc, _+_, _-_, _<_}
+-- What an undo asks of the start records, at the number of stations that the state has; and an undo by the parts that its replay reaches.
+-- Assumes nothing.
+use Prim.Native.Nat.{ℕ, zero, suc, _+_, _-_}
 use mathlib.Core.Path.{_≡_, sym, ap, _∙_}
 use mathlib.Core.Bool.{_&&_, true≢false}
 use mathlib.Core.List.{List}
-use native.Mathlib.Nat.{not-suc-le-zero}
-use native.Mathlib.Numerals.{add-one}
 use native.Mathlib.Omega.{arith}
 use lib.Dec.{eqb, leb}
-use borrow.Author.Tests.{eqb-true, eq-eqb, ne-eqb}
+use borrow.Author.Tests.{eqb-true, eq-eqb}
 use Rattle.rules.specs.Words.{if_then_else_, each, values}
 use Rattle.rules.specs.Names.{LOG}
 use Rattle.rules.specs.Records.{pick-at}
 use Rattle.rules.specs.List.{stations}
 use Rattle.rules.specs.State.{State}
+use Rattle.rules.specs.Lent.{Lent}
 use Rattle.rules.specs.Start.{started}
 use Rattle.rules.specs.Step.{stepped, picked}
 use Rattle.rules.specs.Undo.{replay, starts-right, replayed, undo}
@@ -22,24 +21,8 @@ use Rattle.laws.proofs.Choice.{by-test}
 use Rattle.laws.proofs.Answers.{picked-state, undo-replayed}
 use Rattle.laws.proofs.Sound.{sound-means}
 use Rattle.picking.specs.Took.{Took}
-use Rattle.run.specs.View.{of-parts, as-took}
-
-module _ (list log : List ℕ) (i : ℕ) (s : State) where
-  -- the next pick is taken
-  pub replay-taken : (left : ℕ) → 0 < left → picked list s (pick-at log i) .number ≡ 0
-      → replay list log i left s ≡ replay list log (i + 1) (left - 1) (picked list s (pick-at log i) .state)
-  unfolding replay
-  replay-taken zero some taken = absurd (not-suc-le-zero some)
-  replay-taken (suc left) some taken =
-      let fewer : suc left - 1 ≡ left = omega arith in
-      rw (fewer, add-one i, eq-eqb _ 0 taken)
-
-  -- or refused
-  pub replay-refused : (left : ℕ) → 0 < left → (picked list s (pick-at log i) .number ≡ 0 → ⊥)
-      → replay list log i left s ≡ record { number = picked list s (pick-at log i) .number; state = picked list s (pick-at log i) .state }
-  unfolding replay
-  replay-refused zero some refused = absurd (not-suc-le-zero some)
-  replay-refused (suc left) some refused = rw (ne-eqb _ 0 refused)
+use Rattle.laws.specs.Parts.{of-parts}
+use Rattle.replaying.specs.Replayed.{as-took}
 
 module _ (list log : List ℕ) (b n : ℕ) (counted : n ≡ stations list) where
   pub starts-counted : starts-right list b log ≡ each (λ j. eqb (pick-at log j .station) j && leb (pick-at log j .reset) b) n
@@ -70,18 +53,18 @@ replay-counts list log i (suc count) s none =
 
 -- so that an undo gives back the parts that its replay reached, with a step less
 pub undo-took :
-    (list : List ℕ) (s : State) (log : List ℕ) {t : Took} → CanReplay list s log → t ≡ as-took (replayed list log (s .b) (s .m)) →
-    undo list s log
+    (list : List ℕ) (s : State) (lent : Lent) {t : Took} → CanReplay list s lent → t ≡ as-took (replayed list (lent .log) (s .b) (s .m)) →
+    undo list s lent
     ≡ (if eqb (t .number) 0 then record { number = 0; state = of-parts (t .vars) (t .positions) (t .priorities) (s .n) (s .b) (s .m - 1) }
     else record { number = LOG; state = s })
 unfolding replayed started
-undo-took list s log can is =
+undo-took list s lent can is =
     let counted = sound-means list s .0 (can .of-state) .of-list in
-    let first = started list (s .b) (values (λ j. pick-at log j .reset) (stations list)) in
-    undo-replayed list s log can
-    ∙ by-test (eqb (replayed list log (s .b) (s .m) .number) 0)
+    let first = started list (s .b) (values (λ j. pick-at (lent .log) j .reset) (stations list)) in
+    undo-replayed list s lent can
+    ∙ by-test (eqb (replayed list (lent .log) (s .b) (s .m) .number) 0)
     (λ e.
     let none : 0 + (s .m - 1) ≡ s .m - 1 = omega arith in
-    let is-parts = rw none at (replay-counts list log (stations list) (s .m - 1) first (eqb-true _ 0 e)) in
+    let is-parts = rw none at (replay-counts list (lent .log) (stations list) (s .m - 1) first (eqb-true _ 0 e)) in
     rw (is, e, counted) (ap (λ (r : State). record { number = 0; state = r }) is-parts))
     (λ e. rw (is, e))

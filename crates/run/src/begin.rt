@@ -31,7 +31,7 @@ impl State {
 // The start of a run, with a reset for each station and b the largest reset from then on. It writes a start record for each station to the
 // log; a refusal answers a state of zeros and writes nothing.
 pub fn start(list: &[u8], b: u8, resets: &[u8], log: &mut [u8]) -> Outcome
-    ensures { λ r. ⌜ StartPromise (now (list .entry)) b (now (resets .entry)) (now (log .entry)) r (now (log .exit)) ⌝ }
+    ensures { λ r. ⌜ StartPromise (now (list .entry)) b (now (resets .entry)) (record { log = now (log .entry) }) r (record { log = now (log .exit) }) ⌝ }
 {
     if !list::sound(list) {
         return refused(Record::LIST);

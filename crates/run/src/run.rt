@@ -8,7 +8,6 @@ ghost use Rattle.run.specs.View.{as-state, as-ran};
 ghost use Rattle.run.specs.Promises.{RunPromise};
 use crate::Ran;
 use crate::State;
-use crate::step;
 use record::Record;
 
 // The smaller of two numbers.
@@ -25,7 +24,7 @@ impl State {
     // The steps of the picks, two bytes each, until one is refused, the picks end or the most-steps number is reached. The list and the
     // state are tested once.
     pub fn run(self, list: &[u8], log: &mut [u8], picks: &[u8], most: usize) -> Ran
-        ensures { λ r. ⌜ RunPromise (now (list .entry)) (as-state self) (now (log .entry)) (now (picks .entry)) most r (now (log .exit)) ⌝ }
+        ensures { λ r. ⌜ RunPromise (now (list .entry)) (as-state self) (record { log = now (log .entry) }) (now (picks .entry)) most r (record { log = now (log .exit) }) ⌝ }
     {
         if picks.len() % 2 == 1 {
             return Ran {
@@ -54,7 +53,7 @@ impl State {
     // So many steps, by the first of the picks, on a list and a state that are sound.
     fn single_steps(mut self, list: &[u8], log: &mut [u8], picks: &[u8], count: usize) -> Ran
         requires { ⌜ Known (now list) (as-state self) × (2 * count ≤ length (now picks)) ⌝ }
-        ensures { λ r. ⌜ as-ran r (now (log .exit)) ≡ steps-from (now (list .entry)) (now (picks .entry)) 0 count (as-state self) (now (log .entry)) ⌝ }
+        ensures { λ r. ⌜ as-ran r (record { log = now (log .exit) }) ≡ steps-from (now (list .entry)) (now (picks .entry)) 0 count (as-state self) (record { log = now (log .entry) }) ⌝ }
     {
         let mut positions = self.positions;
         let mut priorities = self.priorities;
@@ -64,7 +63,7 @@ impl State {
         let mut steps: usize = 0;
         while steps < count {
             let at = 2 * steps;
-            let number = step::logged(
+            let number = stepping::logged(
                 list,
                 &mut self.vars,
                 &mut positions,

@@ -1,10 +1,8 @@
-// Whether a state is sound against a list, of any values in any field. `soundness` has the clauses on positions and priorities.
+// Whether a state is sound against a list, of any values in any field.
 ghost use mathlib.Core.Path.{_≡_};
 ghost use Rattle.rules.specs.State.{sound-state};
-ghost use mathlib.Core.List.{[]};
-ghost use Rattle.run.specs.View.{as-state, of-parts};
+ghost use Rattle.run.specs.View.{as-state};
 use crate::State;
-use record::Record;
 
 impl State {
     // Whether the state is sound against the list.
@@ -13,32 +11,6 @@ impl State {
     {
         let positions = self.positions;
         let priorities = self.priorities;
-        parts_sound(list, &positions, &priorities, self.n, self.b, self.m)
+        whole::parts_sound(list, &positions, &priorities, self.n, self.b, self.m)
     }
-}
-
-// Whether a state of these parts is sound against the list, whatever its variables hold.
-pub(crate) fn parts_sound(
-    list: &[u8],
-    positions: &[u16; 8],
-    priorities: &[i16; 8],
-    n: u8,
-    b: u8,
-    m: u16,
-) -> bool
-    ensures { λ r. ⌜ r ≡ sound-state (now (list .entry)) (of-parts [] (now (positions .entry)) (now (priorities .entry)) n b m) ⌝ }
-{
-    let count = list::stations(list);
-    if n as usize != count {
-        return false;
-    }
-    if Record::MAX_STEPS < m {
-        return false;
-    }
-    if !soundness::placed(list, list::later(list, count), *positions, n) {
-        return false;
-    }
-    soundness::bounded(*priorities, n, b)
-        & soundness::few_low(*priorities, n)
-        & soundness::empty(*positions, *priorities, n)
 }

@@ -8,7 +8,7 @@ ghost use Rattle.rules.specs.Names.{max-stations};
 ghost use Rattle.rules.specs.List.{is-at};
 ghost use Rattle.rules.specs.State.{position-in, priority-in, few-low-in, empty-in};
 use record::Record;
-use stations::priority;
+use turns::priority;
 
 // Station j's position; 0 for a station that there is no place for.
 fn position(positions: [u16; 8], j: usize) -> usize

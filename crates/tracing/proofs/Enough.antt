@@ -12,6 +12,7 @@ use Rattle.rules.specs.Words.{if_then_else_, judge}
 use Rattle.rules.specs.Names.{LENGTH, LIST, RESET, max-list, max-stations, max-steps}
 use Rattle.rules.specs.Check.{wrong-length}
 use Rattle.rules.specs.State.{State}
+use Rattle.rules.specs.Lent.{Lent}
 use Rattle.rules.specs.List.{stations, sound-list}
 use Rattle.rules.specs.Build.{Built, build}
 use Rattle.rules.specs.Start.{start}
@@ -35,16 +36,16 @@ by-front f other most file long =
 wrong-long : (picks : List ℕ) → enough ≤ length picks → wrong-picks picks ≡ true
 wrong-long picks long = rw (lt-ltb 8192 (length picks) (omega arith)) (or-true (eqb (length picks % 2) 1))
 
-run-front : (list picks : List ℕ) (s : State) (log : List ℕ) → run-text list (take enough picks) s log ≡ run-text list picks s log
+run-front : (list picks : List ℕ) (s : State) (lent : Lent) → run-text list (take enough picks) s lent ≡ run-text list picks s lent
 unfolding run-text
-run-front list picks s log =
-    by-front (λ p. run-text list p s log) (line list s ++ end-line LENGTH) enough picks (λ long h. rw (wrong-long long h))
+run-front list picks s lent =
+    by-front (λ p. run-text list p s lent) (line list s ++ end-line LENGTH) enough picks (λ long h. rw (wrong-long long h))
 
 -- a start
-start-long : (list : List ℕ) (b : ℕ) (resets log : List ℕ) → max-stations < length resets
-    → start list b resets log .number ≡ (if sound-list list then RESET else LIST)
+start-long : (list : List ℕ) (b : ℕ) (resets : List ℕ) (lent : Lent) → max-stations < length resets
+    → start list b resets lent .number ≡ (if sound-list list then RESET else LIST)
 unfolding start judge
-start-long list b resets log long =
+start-long list b resets lent long =
     by-test (sound-list list)
     (λ yes.
     let few = few-stations list yes in
@@ -52,26 +53,26 @@ start-long list b resets log long =
     (λ no. rw no)
 
 -- what is printed after a start, where there is a B
-abbrev started-text : List ℕ → ℕ → List ℕ → List ℕ → List ℕ → List ℕ
-started-text list b picks log resets =
-    let a = start list b resets log in
-    if eqb (a .number) 0 then run-text list picks (a .state) (a .log) else end-line (a .number)
+abbrev started-text : List ℕ → ℕ → List ℕ → Lent → List ℕ → List ℕ
+started-text list b picks lent resets =
+    let a = start list b resets lent in
+    if eqb (a .number) 0 then run-text list picks (a .state) (a .lent) else end-line (a .number)
 
-started-front : (list : List ℕ) (b : ℕ) (resets picks log : List ℕ)
-    → started-text list b (take enough picks) log (take (1 + max-stations) resets) ≡ started-text list b picks log resets
-started-front list b resets picks log =
+started-front : (list : List ℕ) (b : ℕ) (resets picks : List ℕ) (lent : Lent)
+    → started-text list b (take enough picks) lent (take (1 + max-stations) resets) ≡ started-text list b picks lent resets
+started-front list b resets picks lent =
     let other = end-line (if sound-list list then RESET else LIST) in
-    by-front (started-text list b (take enough picks) log) other (1 + max-stations) resets
-    (λ long h. rw (start-long list b long log (omega arith)) (by-test (sound-list list) (λ yes. rw yes) (λ no. rw no)))
+    by-front (started-text list b (take enough picks) lent) other (1 + max-stations) resets
+    (λ long h. rw (start-long list b long lent (omega arith)) (by-test (sound-list list) (λ yes. rw yes) (λ no. rw no)))
     ∙ (
-    let a = start list b resets log in
-    by-test (eqb (a .number) 0) (λ yes. rw (yes, run-front list picks (a .state) (a .log))) (λ no. rw no)
+    let a = start list b resets lent in
+    by-test (eqb (a .number) 0) (λ yes. rw (yes, run-front list picks (a .state) (a .lent))) (λ no. rw no)
     )
 
 start-front : (list starts picks : List ℕ) → start-text list (take enough-starts starts) (take enough picks) ≡ start-text list starts picks
 unfolding start-text
 start-front list [] picks = refl
-start-front list (b ∷ resets) picks = started-front list b resets picks (replicate (2 * (max-stations + max-steps)) 0)
+start-front list (b ∷ resets) picks = started-front list b resets picks (record { log = replicate (2 * (max-stations + max-steps)) 0 })
 
 -- a program
 wrong-program : (program : List ℕ) → enough ≤ length program → wrong-length program ≡ true

@@ -7,6 +7,7 @@ use lib.Dec.{eqb}
 use Rattle.rules.specs.Names.{max-stations, undo-station}
 use Rattle.rules.specs.Records.{Pick}
 use Rattle.rules.specs.State.{State}
+use Rattle.rules.specs.Lent.{Lent}
 use Rattle.rules.specs.Start.{start}
 use Rattle.rules.specs.Step.{step}
 use Rattle.rules.specs.Undo.{undo}
@@ -18,23 +19,23 @@ use Rattle.fair.proofs.Begun.{start-sound}
 use Rattle.fair.proofs.Kept.{step-sound}
 use Rattle.fair.proofs.Withdrawn.{undo-sound}
 
-pub few-started : (list : List ℕ) (b : ℕ) (resets log : List ℕ) → start list b resets log .number ≡ 0
-    → start list b resets log .state .n ≤ max-stations
-few-started list b resets log taken =
-    at-most-eight (record { of-list = start-can list b resets log taken .of-list; of-state = start-sound list b resets log taken .0 })
+pub few-started : (list : List ℕ) (b : ℕ) (resets : List ℕ) (lent : Lent) → start list b resets lent .number ≡ 0
+    → start list b resets lent .state .n ≤ max-stations
+few-started list b resets lent taken =
+    at-most-eight (record { of-list = start-can list b resets lent taken .of-list; of-state = start-sound list b resets lent taken .0 })
 
-few-stepped : (list : List ℕ) (s : State) (log : List ℕ) (p : Pick) → step list s log p .number ≡ 0 → step list s log p .state .n ≤ max-stations
-few-stepped list s log p taken =
-    let can = step-can list s log p taken .0 in
-    at-most-eight (record { of-list = can .of-list; of-state = step-sound list s log p (can .of-state) })
+few-stepped : (list : List ℕ) (s : State) (lent : Lent) (p : Pick) → step list s lent p .number ≡ 0 → step list s lent p .state .n ≤ max-stations
+few-stepped list s lent p taken =
+    let can = step-can list s lent p taken .0 in
+    at-most-eight (record { of-list = can .of-list; of-state = step-sound list s lent p (can .of-state) })
 
-few-undone : (list : List ℕ) (s : State) (log : List ℕ) → undo list s log .number ≡ 0 → undo list s log .state .n ≤ max-stations
-few-undone list s log taken =
-    let can = undo-can list s log taken .before in
-    at-most-eight (record { of-list = can .of-list; of-state = undo-sound list s log (can .of-state) })
+few-undone : (list : List ℕ) (s : State) (lent : Lent) → undo list s lent .number ≡ 0 → undo list s lent .state .n ≤ max-stations
+few-undone list s lent taken =
+    let can = undo-can list s lent taken .before in
+    at-most-eight (record { of-list = can .of-list; of-state = undo-sound list s lent (can .of-state) })
 
-pub few-taken : (list : List ℕ) (s : State) (log : List ℕ) (p : Pick) → taken-pick list s log p .number ≡ 0
-    → taken-pick list s log p .state .n ≤ max-stations
+pub few-taken : (list : List ℕ) (s : State) (lent : Lent) (p : Pick) → taken-pick list s lent p .number ≡ 0
+    → taken-pick list s lent p .state .n ≤ max-stations
 unfolding taken-pick
-few-taken list s log p =
-    by-test (eqb (p .station) undo-station && eqb (p .reset) 0) (λ yes. rw yes (few-undone list s log)) (λ no. rw no (few-stepped list s log p))
+few-taken list s lent p =
+    by-test (eqb (p .station) undo-station && eqb (p .reset) 0) (λ yes. rw yes (few-undone list s lent)) (λ no. rw no (few-stepped list s lent p))

@@ -8,18 +8,19 @@ use lib.Seq.{take-all}
 use Rattle.rules.specs.Names.{RESET}
 use Rattle.rules.specs.Start.{start}
 use Rattle.tracing.specs.Tracing.{ending, opened-by, opened-list}
+use Rattle.rules.specs.Lent.{Lent}
 
 module _ (count : ℕ) (list : List ℕ) where
   -- with no B
-  pub opened-none : (starts log : List ℕ) → length starts ≡ 0
-      → opened-list count list starts log ≡ record { tracing = ending RESET; list = list; log = log }
+  pub opened-none : (starts : List ℕ) (lent : Lent) → length starts ≡ 0
+      → opened-list count list starts lent ≡ record { tracing = ending RESET; list = list; lent = lent }
   unfolding opened-list
-  opened-none [] log none = refl
-  opened-none (b ∷ resets) log none = absurd (omega arith)
+  opened-none [] lent none = refl
+  opened-none (b ∷ resets) lent none = absurd (omega arith)
 
   -- with B, the first byte, and the resets after it
-  pub opened-some : (starts log : List ℕ) → (length starts ≡ 0 → ⊥)
-      → opened-list count list starts log ≡ opened-by count list (start (take (16 * count) list) (getD starts 0 0) (take (length starts - 1) (drop 1 starts)) log)
+  pub opened-some : (starts : List ℕ) (lent : Lent) → (length starts ≡ 0 → ⊥)
+      → opened-list count list starts lent ≡ opened-by count list (start (take (16 * count) list) (getD starts 0 0) (take (length starts - 1) (drop 1 starts)) lent)
   unfolding opened-list
-  opened-some [] log some = absurd (some refl)
-  opened-some (b ∷ resets) log some = rw (take-all (length (b ∷ resets) - 1) resets (omega arith))
+  opened-some [] lent some = absurd (some refl)
+  opened-some (b ∷ resets) lent some = rw (take-all (length (b ∷ resets) - 1) resets (omega arith))

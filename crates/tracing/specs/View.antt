@@ -6,12 +6,13 @@ use Rattle.text.specs.View.{text-of}
 use Rattle.tracing.specs.Tracing.{Tracing, Piece, Opened}
 use Rattle.tracing.specs.declared.Tracer.{Tracer}
 use Rattle.tracing.specs.declared.Printed.{Printed}
+use Rattle.rules.specs.Lent.{Lent}
 
 abbrev pub as-tracing : Tracer → Tracing
 as-tracing t = record { state = as-state (t .state); count = t .count; next = t .next }
 
-abbrev pub as-piece : Printed → List ℕ → Piece
-as-piece r log = record { text = text-of (r .text); tracing = as-tracing (r .tracer); log = log }
+abbrev pub as-piece : Printed → Lent → Piece
+as-piece r lent = record { text = text-of (r .text); tracing = as-tracing (r .tracer); lent = lent }
 
-abbrev pub as-opened : Tracer → List ℕ → List ℕ → Opened
-as-opened r list log = record { tracing = as-tracing r; list = list; log = log }
+abbrev pub as-opened : Tracer → List ℕ → Lent → Opened
+as-opened r list lent = record { tracing = as-tracing r; list = list; lent = lent }

@@ -12,7 +12,7 @@ use run::State;
 // The trace of a program and a start file, whose first byte is B: the list is built into one buffer, and the start records go to the other.
 // A refusal, the program's first, comes next as the last line.
 pub fn open(program: &[u8], starts: &[u8], list: &mut [u8], log: &mut [u8]) -> Tracer
-    ensures { λ r. ⌜ as-opened r (now (list .exit)) (now (log .exit)) ≡ opened (now (program .entry)) (now (starts .entry)) (now (list .entry)) (now (log .entry)) ⌝ }
+    ensures { λ r. ⌜ as-opened r (now (list .exit)) (record { log = now (log .exit) }) ≡ opened (now (program .entry)) (now (starts .entry)) (now (list .entry)) (record { log = now (log .entry) }) ⌝ }
 {
     let built = build::build(program, list);
     if built.number != 0 {

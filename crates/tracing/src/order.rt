@@ -39,7 +39,7 @@ impl Tracer {
 
     // The next piece of the trace. A step taken writes its record to the log.
     pub fn next(self, list: &[u8], log: &mut [u8], picks: &[u8]) -> Printed
-        ensures { λ r. ⌜ as-piece r (now (log .exit)) ≡ piece (now (list .entry)) (now (picks .entry)) (now (log .entry)) (as-tracing self) ⌝ }
+        ensures { λ r. ⌜ as-piece r (record { log = now (log .exit) }) ≡ piece (now (list .entry)) (now (picks .entry)) (record { log = now (log .entry) }) (as-tracing self) ⌝ }
     {
         let own = opening::used(list, self.count);
         let state = self.state;
@@ -69,7 +69,7 @@ impl Tracer {
 
     // The piece of the pick at record i: the line after it, or the last line where it is refused or there is none.
     fn pick(self, list: &[u8], log: &mut [u8], picks: &[u8], i: usize) -> Printed
-        ensures { λ r. ⌜ as-piece r (now (log .exit)) ≡ pick-piece (now (list .entry)) (now (picks .entry)) (now (log .entry)) (as-tracing self) i ⌝ }
+        ensures { λ r. ⌜ as-piece r (record { log = now (log .exit) }) ≡ pick-piece (now (list .entry)) (now (picks .entry)) (record { log = now (log .entry) }) (as-tracing self) i ⌝ }
     {
         if picks.len() / 2 <= i {
             return self.print_then(end_line(0), Next::Nothing);

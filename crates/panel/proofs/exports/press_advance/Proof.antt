@@ -89,7 +89,7 @@ module _ {M : Type 1} (𝓤 : URA M) (H : Heap 𝓤) (A : Atoms 𝓤) (W : Given
 
   -- what `advance` says
   abbrev Said : ℕ → State → List ℕ → Type 0
-  Said r left after = AdvancePromise (list .now) (as-state given) (log .now) (record { station = station; reset = reset }) r left after
+  Said r left after = AdvancePromise (list .now) (as-state given) (record { log = log .now }) (record { station = station; reset = reset }) r left (record { log = after })
 
   -- the function ends with what `advance` left
   exits : (r : ℕ) (left : State) (after : List ℕ) → Said r left after → length after ≡ length (log .now) → r < 2 ^ 8

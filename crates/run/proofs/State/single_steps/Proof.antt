@@ -14,8 +14,9 @@ use Rattle.rules.specs.Step.{Stepped}
 use Rattle.rules.specs.Run.{steps-from}
 use Rattle.laws.specs.Passed.{Known}
 use Rattle.fair.proofs.Kept.{step-sound}
-use Rattle.run.specs.View.{as-state, of-parts}
-use Rattle.run.proofs.Picks.{few-steps}
+use Rattle.laws.specs.Parts.{of-parts}
+use Rattle.run.specs.View.{as-state}
+use Rattle.stepping.proofs.Known.{few-steps, logged-known}
 use Rattle.run.proofs.Runs.{counted, counted-none, run-ended, run-taken, run-refused}
 use Rattle.run.proofs.State.single_steps.Statement.{statement}
 use Rattle.run.proofs.State.single_steps.Tie as tie
@@ -25,8 +26,8 @@ Inv-loop list log₀ picks count self₀ positions₀ priorities₀ n b m₀ ste
     (steps ≤ count)
     × (length log ≡ length log₀)
     × (sound-state list (of-parts (self .vars) positions priorities n b m) ≡ true)
-    × (steps-from list picks 0 count (as-state self₀) log₀
-    ≡ counted steps (steps-from list picks steps (count - steps) (of-parts (self .vars) positions priorities n b m) log))
+    × (steps-from list picks 0 count (as-state self₀) (record { log = log₀ })
+    ≡ counted steps (steps-from list picks steps (count - steps) (of-parts (self .vars) positions priorities n b m) (record { log = log })))
 
 abbrev μ-loop : tie.MeasureT-loop
 μ-loop list log₀ picks count self₀ positions₀ priorities₀ n b m₀ steps₀ log self positions priorities m steps = count - steps
@@ -58,7 +59,7 @@ shared-slice-read-logged-2 : tie.Need-shared-slice-read-logged-2 Inv-loop μ-loo
 shared-slice-read-logged-2 c = search needs
 
 logged-requires : tie.Need-logged-requires Inv-loop μ-loop
-logged-requires c κs = known (c .before .before .before .before .before .before)
+logged-requires c κs = search needs
 
 same-length : tie.Need-same-length Inv-loop μ-loop
 same-length c = search needs
@@ -72,9 +73,9 @@ returns c =
     let a = start .args in
     let at = turn .before .loop in
     let s = of-parts (at .self .vars) (at .positions) (at .priorities) (a .t1 .n) (a .t1 .b) (at .m) in
-    let e = rw (ne-eqb _ _ (refused .if1 .taken)) at (done .logged .ensures) in
+    let e = rw (ne-eqb _ _ (refused .if1 .taken)) at (done .logged .ensures ∙ logged-known _ s _ _ (known turn)) in
     sym (at .inv .3
-    ∙ rw (← e) at (run-refused (a .list .now) (a .picks .now) (a .count) (at .steps) s (at .log)
+    ∙ rw (← e) at (run-refused (a .list .now) (a .picks .now) (a .count) (at .steps) s (record { log = at .log })
     (turn .loop-test .taken) (λ z. refused .if1 .taken (ap (λ (a : Stepped). a .number) e ∙ z))))
 
 add-m : tie.Need-add-m Inv-loop μ-loop
@@ -96,13 +97,13 @@ loop-again c =
     let a = start .args in
     let at = turn .before .loop in
     let s = of-parts (at .self .vars) (at .positions) (at .priorities) (a .t1 .n) (a .t1 .b) (at .m) in
-    let e = rw (eq-eqb _ _ (c .if1 .left)) at (done .logged .ensures) in
+    let e = rw (eq-eqb _ _ (c .if1 .left)) at (done .logged .ensures ∙ logged-known _ s _ _ (known turn)) in
     let taken = sym (ap (λ (a : Stepped). a .number) e) ∙ c .if1 .left in (
       search needs,
       done .logged .kept .1 .1 .1 .1 .1 .1 .1 .0 ∙ at .inv .1,
-      rw (← e) at (step-sound (a .list .now) s (at .log) (pick-at (a .picks .now) (at .steps)) (at .inv .2)),
+      rw (← e) at (step-sound (a .list .now) s (record { log = at .log }) (pick-at (a .picks .now) (at .steps)) (at .inv .2)),
       at .inv .3
-          ∙ rw (← e) at (run-taken (a .list .now) (a .picks .now) (a .count) (at .steps) s (at .log) (turn .loop-test .taken) taken),
+          ∙ rw (← e) at (run-taken (a .list .now) (a .picks .now) (a .count) (at .steps) s (record { log = at .log }) (turn .loop-test .taken) taken),
     )
 
 same-length-2 : tie.Need-same-length-2 Inv-loop μ-loop

@@ -3,7 +3,7 @@
 use mathlib.Core.Path.{_∙_}
 use borrow.Author.Needs.{needs}
 use Rattle.run.specs.View.{as-state}
-use Rattle.run.proofs.Clauses.{sound-whatever}
+use Rattle.whole.proofs.Clauses.{sound-whatever}
 use Rattle.run.proofs.State.sound.Statement.{statement}
 use Rattle.run.proofs.State.sound.Tie as tie
 

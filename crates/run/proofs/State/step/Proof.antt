@@ -1,7 +1,6 @@
 -- `run::State::step` meets its contract: the list and the state are tested first.
 -- Assumes nothing.
 use mathlib.Core.Path.{_≡_, sym, _∙_}
-use mathlib.Core.Bool.{true}
 use native.Mathlib.Omega.{arith}
 use borrow.Author.Needs.{needs}
 use borrow.Author.Tests.{eq-eqb, ne-eqb, not-true, not-false}
@@ -10,8 +9,8 @@ use Rattle.rules.specs.State.{sound-state}
 use Rattle.rules.specs.Step as rules
 use Rattle.laws.specs.Passed.{Known}
 use Rattle.run.specs.View.{as-state}
-use Rattle.run.proofs.Clauses.{sound-whatever}
-use Rattle.run.proofs.Picks.{few-steps}
+use Rattle.whole.proofs.Clauses.{sound-whatever}
+use Rattle.stepping.proofs.Known.{few-steps, logged-known}
 use Rattle.run.proofs.State.step.Statement.{statement}
 use Rattle.run.proofs.State.step.Tie as tie
 
@@ -49,7 +48,7 @@ returns-2 c =
     rw (sym (listed .before .sound .ensures) ∙ not-false _ (listed .if1 .left), asked (c .before) ∙ not-true _ (c .if2 .taken))
 
 logged-requires : tie.Need-logged-requires
-logged-requires c κs = known (c .before .before .before .before)
+logged-requires c κs = search needs
 
 add-self : tie.Need-add-self
 add-self c =
@@ -59,13 +58,17 @@ same-length : tie.Need-same-length
 same-length c = search needs
 
 returns-3 : tie.Need-returns-3
-returns-3 c = rw (eq-eqb _ _ (c .if3 .taken)) at (c .before .before .before .logged .ensures)
+returns-3 c =
+    let done = c .before .before .before in
+    rw (eq-eqb _ _ (c .if3 .taken)) at (done .logged .ensures ∙ logged-known _ _ _ _ (known (done .before .before .before .before .before)))
 
 same-length-2 : tie.Need-same-length-2
 same-length-2 c = search needs
 
 returns-4 : tie.Need-returns-4
-returns-4 c = rw (ne-eqb _ _ (c .if3 .left)) at (c .before .before .before .logged .ensures)
+returns-4 c =
+    let done = c .before .before .before in
+    rw (ne-eqb _ _ (c .if3 .left)) at (done .logged .ensures ∙ logged-known _ _ _ _ (known (done .before .before .before .before .before)))
 
 pub step-spec : {M : Type 1} → statement M
 step-spec =

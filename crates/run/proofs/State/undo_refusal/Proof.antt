@@ -46,7 +46,7 @@ by-starts false = refl
 -- where nothing refuses before them, the start records decide
 decided : (c : tie.After-right) (right : Bool) → c .right .result ≡ right
     → let a = c .before .before .before .before .before .before .before .before .before .before .before .before .args in
-    (if right then 0 else LOG) ≡ refusal (before-replay (a .list .now) (as-state (a .self)) (a .log .now))
+    (if right then 0 else LOG) ≡ refusal (before-replay (a .list .now) (as-state (a .self)) (record { log = a .log .now }))
 unfolding judge
 decided c right is =
     let roomy = c .before in

@@ -1,0 +1,2 @@
+-- A step past its tests of the list and the state.
+pub mod Logged

@@ -1,0 +1,66 @@
+-- The demands' premises can be met, with a log of junk, a run refused part-way and an undo among the calls; and the bound on passing over
+-- is met with equality. P10's two stations. This is a claim, and proofs/Witness.antt shows it.
+use mathlib.Core.Path.{_≡_}
+use mathlib.Core.List.{List, [], _∷_, _++_}
+use mathlib.Core.Option.{some}
+use Prim.Native.Nat.{ℕ, _+_}
+use lib.ListN.{replicate}
+use Rattle.rules.specs.Names.{TURN, STATION, SKIP, WHILE, OD}
+use Rattle.rules.specs.Records.{Pick}
+use Rattle.rules.specs.List.{stations}
+use Rattle.rules.specs.State.{State, zeros}
+use Rattle.rules.specs.Lent.{Lent}
+use Rattle.rules.specs.Start.{started}
+use Rattle.rules.specs.Step.{stepped}
+use Rattle.rules.specs.Calls.{ruled}
+use Rattle.rules.specs.History.{Call, START, STEP, RUN, UNDO, Steps, begun, taken, start-b, answered, history}
+use Rattle.rules.specs.Passed.{passed-over, Unpicked}
+use Rattle.reading.specs.Accepted.{Accepted}
+use Rattle.built.specs.Built.{built}
+use Rattle.demands.specs.Demands.{Bytes}
+
+-- "two stations, each WHILE v0 = v0 around SKIP"
+abbrev station : List ℕ
+station = (STATION ∷ replicate 7 0) ++ (WHILE ∷ 0 ∷ 0 ∷ 4 ∷ replicate 4 0) ++ (SKIP ∷ replicate 7 0) ++ (OD ∷ replicate 7 0)
+
+abbrev pub pair : List ℕ
+pair = station ++ station
+
+abbrev pick : ℕ → ℕ → Pick
+pick station reset = record { station = station; reset = reset }
+
+abbrev junk : Lent
+junk = record { log = replicate 16 7 }
+
+-- a start, and a run of three picks of station 0
+abbrev pub ran : List Call
+ran = START 1 (0 ∷ 1 ∷ []) ∷ RUN (0 ∷ 0 ∷ 0 ∷ 0 ∷ 0 ∷ 0 ∷ []) 9 ∷ []
+
+-- then a step of station 1, and back
+abbrev pub calls : List Call
+calls = ran ++ (STEP (pick 1 1) ∷ UNDO ∷ [])
+
+abbrev s₀ : State
+s₀ = started (built pair) 1 (0 ∷ 1 ∷ [])
+
+abbrev s₁ : State
+s₁ = stepped (built pair) s₀ (pick 0 0)
+
+abbrev s₂ : State
+s₂ = stepped (built pair) s₁ (pick 0 0)
+
+abbrev pub steps : Steps
+steps = taken (taken (begun 1 (0 ∷ 1 ∷ []) s₀) (pick 0 0) s₁) (pick 0 0) s₂
+
+pub record Met : Type 0 where
+  pub bytes : Bytes pair
+  pub accepted : Accepted pair
+  -- the run is refused at its third pick
+  pub refused : answered ruled (built pair) (history ruled (built pair) zeros junk (START 1 (0 ∷ 1 ∷ []) ∷ [])) (RUN (0 ∷ 0 ∷ 0 ∷ 0 ∷ 0 ∷ 0 ∷ []) 9) ≡ TURN
+  pub stood : history ruled (built pair) zeros junk ran .standing ≡ some steps
+  -- the step after it is taken, and the undo takes it off again
+  pub stepped-there : history ruled (built pair) zeros junk (ran ++ (STEP (pick 1 1) ∷ [])) .standing ≡ some (taken steps (pick 1 1) (stepped (built pair) s₂ (pick 1 1)))
+  pub stands : history ruled (built pair) zeros junk calls .standing ≡ some steps
+  pub unpicked : Unpicked 1 steps 2
+  -- in which station 1 was passed over B+n-1 times
+  pub as-often : passed-over (built pair) 1 steps 2 + 1 ≡ start-b steps + stations (built pair)
