@@ -42,13 +42,14 @@ enum call { CHECK, BUILD, START, STEP, ADVANCE, RUN, UNDO, READINESS, LIGHTS, CA
 static const char *const call_names[CALLS] = {"check", "build", "start",     "step",  "advance",
                                               "run",   "undo",  "readiness", "lights"};
 
-/* What a call is given. The log is the one of a run that stands; step and run write to copies of it. */
+/* What a call is given. The log and the kept states are those of a run that stands; step and run write to others. */
 struct input {
     uint8_t file[PRESS_FILE_BYTES];
     size_t file_len;
     uint8_t list[PRESS_LIST_BYTES];
     size_t list_len;
     uint8_t log[PRESS_LOG_BYTES];
+    uint8_t kept[PRESS_KEPT_BYTES];
     uint8_t picks[2 * IND_MAX_STEPS];
     size_t picks_len;
     struct ind_state state;
@@ -177,7 +178,7 @@ static void start_run(struct input *in)
     while (in->list[16 * n] == IND_INIT)
         n++;
     const struct ind_state_answer started =
-        ind_start(in->list, in->list_len, MOST_RESET, resets, n, in->log, sizeof in->log);
+        ind_start(in->list, in->list_len, MOST_RESET, resets, n, in->log, sizeof in->log, in->kept, sizeof in->kept);
     if (started.number != 0) {
         fprintf(stderr, "bench: a list to be timed is refused: %d\n", started.number);
         exit(1);
@@ -196,6 +197,21 @@ static struct input *dryer(void)
     add(in, IND_AWAIT, 0, 0, 0, 1);
     add(in, IND_SET, 0, 0, 2, 1);
     add(in, IND_END, 0, 0, 0, 0);
+    build_list(in);
+    start_run(in);
+    return in;
+}
+
+/* Two stations that never end, started: a WHILE that holds round a SKIP. */
+static struct input *pair(void)
+{
+    struct input *in = new_input();
+    for (size_t j = 0; j < 2; j++) {
+        add(in, IND_STATION, 0, 0, 0, 0);
+        add(in, IND_WHILE, 0, 0, 4, 0);
+        add(in, IND_SKIP, 0, 0, 0, 0);
+        add(in, IND_OD, 0, 0, 0, 0);
+    }
     build_list(in);
     start_run(in);
     return in;
@@ -293,14 +309,14 @@ static struct input *await_loops(size_t body)
 /* So many picks, each of a station in turn, found on a run of their own. */
 static struct input *with_picks(struct input *in, size_t picks)
 {
-    static uint8_t log[PRESS_LOG_BYTES];
+    static uint8_t log[PRESS_LOG_BYTES], kept[PRESS_KEPT_BYTES];
     struct ind_state state = in->state;
     for (size_t i = 0; i < picks; i++) {
         const uint8_t in_turn = ind_lights(in->list, in->list_len, state).in_turn;
         uint8_t station = i * 5 % 8, reset = i * 7 % (MOST_RESET + 1);
         while (in_turn != 0 && (in_turn >> station & 1) == 0)
             station = (station + 1) % 8;
-        state = ind_step(in->list, in->list_len, state, log, sizeof log, station, reset).state;
+        state = ind_step(in->list, in->list_len, state, log, sizeof log, kept, sizeof kept, station, reset).state;
         in->picks[2 * i] = station;
         in->picks[2 * i + 1] = reset;
     }
@@ -308,14 +324,17 @@ static struct input *with_picks(struct input *in, size_t picks)
     return in;
 }
 
-/* The same run with its picks taken. */
-static struct input *after_picks(const struct input *before)
+/* The same run with so many of its picks taken, of which the next stands first. */
+static struct input *with_steps(const struct input *before, size_t steps)
 {
     struct input *in = new_input();
     *in = *before;
-    in->state =
-        ind_run(in->list, in->list_len, in->state, in->log, sizeof in->log, in->picks, in->picks_len, SIZE_MAX).state;
+    in->state = ind_run(in->list, in->list_len, in->state, in->log, sizeof in->log, in->kept, sizeof in->kept, in->picks,
+                        2 * steps, SIZE_MAX)
+                    .state;
     in->our_state = same_as(&in->state);
+    in->picks_len -= 2 * steps;
+    memmove(in->picks, in->picks + 2 * steps, in->picks_len);
     return in;
 }
 
@@ -346,6 +365,7 @@ static const uint8_t resets[8] = {3, 3, 3, 3, 3, 3, 3, 3};
 /* What each side writes to. */
 static uint8_t our_list[PRESS_LIST_BYTES], their_list[PRESS_LIST_BYTES];
 static uint8_t our_log[PRESS_LOG_BYTES], their_log[PRESS_LOG_BYTES];
+static uint8_t our_kept[PRESS_KEPT_BYTES], their_kept[PRESS_KEPT_BYTES];
 
 typedef void our_call(const struct input *in, union our_answer *r);
 typedef void their_call(const struct input *in, union their_answer *r);
@@ -362,14 +382,15 @@ typedef void their_call(const struct input *in, union their_answer *r);
 IDLE(press_checked, check, const uint8_t *file, size_t file_len)
 IDLE(press_built, build, const uint8_t *file, size_t file_len, uint8_t *list, size_t list_len)
 IDLE(press_outcome, start, const uint8_t *list, size_t list_len, uint8_t b, const uint8_t *given, size_t given_len,
-     uint8_t *log, size_t log_len)
+     uint8_t *log, size_t log_len, const uint8_t *kept, size_t kept_len)
 IDLE(press_outcome, step, press_state state, const uint8_t *list, size_t list_len, uint8_t *log, size_t log_len,
-     uint8_t station, uint8_t reset)
+     uint8_t *kept, size_t kept_len, uint8_t station, uint8_t reset)
 IDLE(uint8_t, advance, press_state *state, const uint8_t *list, size_t list_len, uint8_t *log, size_t log_len,
-     uint8_t station, uint8_t reset)
+     uint8_t *kept, size_t kept_len, uint8_t station, uint8_t reset)
 IDLE(press_ran, run, press_state state, const uint8_t *list, size_t list_len, uint8_t *log, size_t log_len,
-     const uint8_t *picks, size_t picks_len, size_t most)
-IDLE(press_outcome, undo, press_state state, const uint8_t *list, size_t list_len, const uint8_t *log, size_t log_len)
+     uint8_t *kept, size_t kept_len, const uint8_t *picks, size_t picks_len, size_t most)
+IDLE(press_outcome, undo, press_state state, const uint8_t *list, size_t list_len, const uint8_t *log, size_t log_len,
+     const uint8_t *kept, size_t kept_len)
 IDLE(press_told, readiness, press_state state, const uint8_t *list, size_t list_len, uint8_t station)
 IDLE(press_lit, lights, press_state state, const uint8_t *list, size_t list_len)
 #pragma GCC diagnostic pop
@@ -396,23 +417,26 @@ static void their_build(const struct input *in, union their_answer *r)
 
 static void their_start(const struct input *in, union their_answer *r)
 {
-    r->state = ind_start(in->list, in->list_len, MOST_RESET, resets, in->state.n, their_log, sizeof their_log);
+    r->state = ind_start(in->list, in->list_len, MOST_RESET, resets, in->state.n, their_log, sizeof their_log, their_kept,
+                         sizeof their_kept);
 }
 
 /* A step takes the first pick. */
 static void their_step(const struct input *in, union their_answer *r)
 {
-    r->state = ind_step(in->list, in->list_len, in->state, their_log, sizeof their_log, in->picks[0], in->picks[1]);
+    r->state = ind_step(in->list, in->list_len, in->state, their_log, sizeof their_log, their_kept, sizeof their_kept,
+                        in->picks[0], in->picks[1]);
 }
 
 static void their_run(const struct input *in, union their_answer *r)
 {
-    r->ran = ind_run(in->list, in->list_len, in->state, their_log, sizeof their_log, in->picks, in->picks_len, SIZE_MAX);
+    r->ran = ind_run(in->list, in->list_len, in->state, their_log, sizeof their_log, their_kept, sizeof their_kept,
+                     in->picks, in->picks_len, SIZE_MAX);
 }
 
 static void their_undo(const struct input *in, union their_answer *r)
 {
-    r->state = ind_undo(in->list, in->list_len, in->state, in->log, sizeof in->log);
+    r->state = ind_undo(in->list, in->list_len, in->state, in->log, sizeof in->log, in->kept, sizeof in->kept);
 }
 
 /* Readiness of the station of the first pick. */
@@ -453,12 +477,14 @@ static int right(enum call call, const union our_answer *r, const union their_an
 }
 
 /* Clears what build, start and run write to. */
-static void clear(enum call call, uint8_t *list, uint8_t *log)
+static void clear(enum call call, uint8_t *list, uint8_t *log, uint8_t *kept)
 {
     if (call == BUILD)
         memset(list, PAINT, PRESS_LIST_BYTES);
     if (call == START || call == RUN)
         memset(log, PAINT, PRESS_LOG_BYTES);
+    if (call == RUN)
+        memset(kept, PAINT, PRESS_KEPT_BYTES);
 }
 
 /* Whether a call's buffers are cleared between repetitions: a step writes two bytes, and these calls more. */
@@ -495,7 +521,7 @@ static union their_answer their_answers[STRETCH];
 static double our_stretch(enum call call, const struct input *in, size_t repetitions)
 {
     our_call *const made = our_calls[call];
-    clear(call, our_list, our_log);
+    clear(call, our_list, our_log, our_kept);
     const double began = now();
     for (size_t i = 0; i < repetitions; i++)
         made(in, &our_answers[i]);
@@ -505,7 +531,7 @@ static double our_stretch(enum call call, const struct input *in, size_t repetit
 static double their_stretch(enum call call, const struct input *in, size_t repetitions)
 {
     their_call *const made = their_calls[call];
-    clear(call, their_list, their_log);
+    clear(call, their_list, their_log, their_kept);
     const double began = now();
     for (size_t i = 0; i < repetitions; i++)
         made(in, &their_answers[i]);
@@ -515,7 +541,8 @@ static double their_stretch(enum call call, const struct input *in, size_t repet
 /* Ends the program unless each of the answers just timed is right and both sides wrote the same. */
 static void must_be_right(const char *name, enum call call, uint8_t number, size_t answers)
 {
-    int same = memcmp(our_list, their_list, sizeof our_list) == 0 && memcmp(our_log, their_log, sizeof our_log) == 0;
+    int same = memcmp(our_list, their_list, sizeof our_list) == 0 && memcmp(our_log, their_log, sizeof our_log) == 0
+        && memcmp(our_kept, their_kept, sizeof our_kept) == 0;
     for (size_t i = 0; i < answers; i++)
         same = same && right(call, &our_answers[i], &their_answers[i], number);
     if (!same) {
@@ -545,8 +572,8 @@ static struct timing timed(const char *name, enum call call, const struct input 
 {
     size_t repetitions = 1;
     for (enum call c = CHECK; c < CALLS; c++) {
-        clear(c, our_list, our_log);
-        clear(c, their_list, their_log);
+        clear(c, our_list, our_log, our_kept);
+        clear(c, their_list, their_log, their_kept);
     }
     struct timing best = one_round(name, call, in, number, repetitions);
     while ((double)repetitions * (best.ours < best.theirs ? best.ours : best.theirs) < ROUND_NS)
@@ -608,7 +635,7 @@ struct subject {
     struct timing timing;
 };
 
-enum { MOST_SUBJECTS = 32 };
+enum { MOST_SUBJECTS = 48 };
 static struct subject subjects[MOST_SUBJECTS];
 static size_t subject_count;
 
@@ -634,7 +661,7 @@ static void make_file_subjects(void)
 
 static void make_run_subjects(void)
 {
-    const struct input *small = dryer(), *few = with_picks(long_list(516), 1);
+    const struct input *small = dryer(), *loops = with_picks(pair(), 128), *few = with_picks(long_list(516), 64);
     const struct input *all = with_picks(long_list(IND_MAX_ITEMS), IND_MAX_STEPS);
     const struct input *fewer_picks = with_picks(long_list(IND_MAX_ITEMS), IND_MAX_STEPS / 2);
     /* Each station stands at an AWAIT that holds, so that a step runs a body. */
@@ -645,14 +672,22 @@ static void make_run_subjects(void)
     subject(STEP, "list of 7 records", 0, small, NULL, "");
     subject(STEP, "list of 1,032 records", 0, all, few, "records of the list");
     subject(STEP, "AWAIT of 100 records", 0, bodies, short_bodies, "records of a body");
+    subject(STEP, "the 64th, list of 8 records", 0, with_steps(loops, 63), NULL, "");
     subject(ADVANCE, "list of 7 records", 0, small, NULL, "");
     subject(ADVANCE, "list of 1,032 records", 0, all, few, "records of the list");
     subject(ADVANCE, "AWAIT of 100 records", 0, bodies, short_bodies, "records of a body");
     subject(RUN, "4,096 picks, list of 1,032 records", 0, all, fewer_picks, "picks");
     subject(RUN, "4,096 picks, AWAITs of 100 records", 0, bodies, short_bodies, "records of a body");
-    subject(UNDO, "4,096 steps, list of 1,032 records", 0, after_picks(all), after_picks(fewer_picks), "standing steps");
-    subject(UNDO, "4,096 steps, AWAITs of 100 records", 0, after_picks(bodies), after_picks(short_bodies),
-            "records of a body");
+    /* However many steps stand, at most 63 are replayed: of 65 none, of 1,000 39, of 2,000 15, of 64 and 4,096 63. */
+    subject(UNDO, "65 steps, list of 8 records", 0, with_steps(loops, 65), NULL, "");
+    subject(UNDO, "64 steps, list of 1,032 records", 0, with_steps(all, 64), NULL, "");
+    subject(UNDO, "65 steps, list of 1,032 records", 0, with_steps(all, 65), NULL, "");
+    subject(UNDO, "1,000 steps, list of 1,032 records", 0, with_steps(all, 1000), NULL, "");
+    subject(UNDO, "2,000 steps, list of 1,032 records", 0, with_steps(all, 2000), NULL, "");
+    subject(UNDO, "4,096 steps, list of 1,032 records", 0, with_steps(all, IND_MAX_STEPS), with_steps(all, IND_MAX_STEPS / 2),
+            "standing steps");
+    subject(UNDO, "4,096 steps, AWAITs of 100 records", 0, with_steps(bodies, IND_MAX_STEPS),
+            with_steps(short_bodies, IND_MAX_STEPS), "records of a body");
     subject(READINESS, "list of 7 records", 0, small, NULL, "");
     subject(READINESS, "list of 1,032 records", 0, all, few, "records of the list");
     subject(READINESS, "8 waiting at AWAITs of 100 records", IND_NOT_READY, waiting, short_waiting, "records of a body");

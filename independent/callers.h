@@ -15,14 +15,15 @@ static void CALLER(build)(const struct input *in, union our_answer *r)
 
 static void CALLER(start)(const struct input *in, union our_answer *r)
 {
-    r->started = CALLEE(start)(in->list, in->list_len, MOST_RESET, resets, in->state.n, our_log, sizeof our_log);
+    r->started = CALLEE(start)(in->list, in->list_len, MOST_RESET, resets, in->state.n, our_log, sizeof our_log,
+                                in->kept, sizeof in->kept);
 }
 
 /* A step takes the first pick. */
 static void CALLER(step)(const struct input *in, union our_answer *r)
 {
-    r->stepped = CALLEE(step)(in->our_state, in->list, in->list_len, our_log, sizeof our_log, in->picks[0],
-                              in->picks[1]);
+    r->stepped = CALLEE(step)(in->our_state, in->list, in->list_len, our_log, sizeof our_log, our_kept,
+                              sizeof our_kept, in->picks[0], in->picks[1]);
 }
 
 /* The state lent is put back before each call. */
@@ -30,18 +31,18 @@ static void CALLER(advance)(const struct input *in, union our_answer *r)
 {
     r->stepped.state = in->our_state;
     r->stepped.number = CALLEE(advance)(&r->stepped.state, in->list, in->list_len, our_log, sizeof our_log,
-                                        in->picks[0], in->picks[1]);
+                                        our_kept, sizeof our_kept, in->picks[0], in->picks[1]);
 }
 
 static void CALLER(run)(const struct input *in, union our_answer *r)
 {
-    r->ran = CALLEE(run)(in->our_state, in->list, in->list_len, our_log, sizeof our_log, in->picks, in->picks_len,
-                         SIZE_MAX);
+    r->ran = CALLEE(run)(in->our_state, in->list, in->list_len, our_log, sizeof our_log, our_kept, sizeof our_kept,
+                         in->picks, in->picks_len, SIZE_MAX);
 }
 
 static void CALLER(undo)(const struct input *in, union our_answer *r)
 {
-    r->undone = CALLEE(undo)(in->our_state, in->list, in->list_len, in->log, sizeof in->log);
+    r->undone = CALLEE(undo)(in->our_state, in->list, in->list_len, in->log, sizeof in->log, in->kept, sizeof in->kept);
 }
 
 /* Readiness of the station of the first pick. */

@@ -18,10 +18,10 @@
  *
  *   1 check       file
  *   2 build       file, buffer
- *   3 start       list, B (1 byte), resets, log
- *   4 step        list, state, log, station and reset (2 bytes)
- *   5 run         list, state, log, picks, most (8 bytes, low byte first)
- *   6 undo        list, state, log
+ *   3 start       list, B (1 byte), resets, log, kept
+ *   4 step        list, state, log, kept, station and reset (2 bytes)
+ *   5 run         list, state, log, kept, picks, most (8 bytes, low byte first)
+ *   6 undo        list, state, log, kept
  *   7 lights      list, state
  *   8 trace       program, start, picks
  *   9 readiness   list, state, station (1 byte)
@@ -29,16 +29,27 @@
  * A state is 164 bytes: 32 variables of 4, 8 positions of 2, 8 priorities of
  * 2 (two's complement), n, B, m of 2; low bytes first.
  *
+ * A kept field does not hold the kept buffer but describes it: 2 bytes L, the
+ * buffer's length, low byte first; 1 byte f, and byte i of the buffer is
+ * f * (i + 1) mod 256; then to the end of the field patches, one after the
+ * other, each 2 bytes offset, 2 bytes count, low bytes first, and so many bytes
+ * that are put into the buffer from the offset on.  Bytes that would fall past
+ * L are dropped.
+ *
  * An answer line is the call's number and, in decimal with single spaces:
  *
- *   1 number place                     5 number steps H(state) H(log)
- *   2 number place count H(buffer)     6 number H(state)
- *   3 number H(state) H(log)           7 number ready in-turn waiting ended
- *   4 number H(state) H(log)             H(the 64 bytes of the rows)
- *                                      8 length H(text)
- *                                      9 number place
+ *   1 number place
+ *   2 number place count H(buffer)
+ *   3 number H(state) H(log) H(kept)
+ *   4 number H(state) H(log) H(kept)
+ *   5 number steps H(state) H(log) H(kept)
+ *   6 number H(state)
+ *   7 number ready in-turn waiting ended H(the 64 bytes of the rows)
+ *   8 length H(text)
+ *   9 number place
  *
- * H is 7 at first and for each byte b becomes h * 31 + b + 1 mod 2^32.
+ * H is 7 at first and for each byte b becomes h * 31 + b + 1 mod 2^32; of a
+ * lent buffer it is taken of all its bytes, after the call.
  */
 #include <stdio.h>
 #include <stdlib.h>
@@ -50,20 +61,21 @@
 enum call { CHECK = 1, BUILD, START, STEP, RUN, UNDO, LIGHTS, TRACE,
             READINESS };
 
-enum { STATE_BYTES = 164, MAX_FIELDS = 5, NUMBERS = 17, CALLS = 10,
+enum { STATE_BYTES = 164, MAX_FIELDS = 6, NUMBERS = 17, CALLS = 10,
        ROUNDS = 75, READINESS_ROUNDS = 70, LIGHTS_ROUNDS = 30,
-       SMALL_LIST = 192 };
+       KEPT_ROUNDS = 32, SMALL_LIST = 192, KEPT_LIST = 480 };
 
 static const char *const call_name[CALLS] = {
     "", "check", "build", "start", "step", "run", "undo", "lights", "trace",
     "readiness"
 };
 
-static const uint8_t field_count[CALLS] = { 0, 1, 2, 4, 4, 5, 3, 2, 3, 3 };
+static const uint8_t field_count[CALLS] = { 0, 1, 2, 5, 5, 6, 4, 2, 3, 3 };
 
 /* The numbers that the documents allow each call.  The trace's own buffers
  * are never short, its lists and states are sound, 4,096 picks never fill it
- * past the last, and its log is its own: it has no 6, 7, 8, 9, 15. */
+ * past the last, and its log and kept buffer are its own: it has no 6, 7, 8, 9,
+ * 15. */
 static const uint8_t allowed[CALLS][NUMBERS] = {
     /*           0  1  2  3  4  5  6  7  8  9 10 11 12 13 14 15 16 */
     { 0 },
@@ -72,7 +84,7 @@ static const uint8_t allowed[CALLS][NUMBERS] = {
     /* start */ { 1, 0, 0, 0, 0, 0, 1, 1, 0, 0, 0, 0, 0, 1 },
     /* step  */ { 1, 0, 0, 0, 0, 0, 1, 1, 1, 1, 1, 1, 1, 1, 0, 0, 1 },
     /* run   */ { 1, 1, 0, 0, 0, 0, 1, 1, 1, 1, 1, 1, 1, 1, 0, 0, 1 },
-    /* undo  */ { 1, 0, 0, 0, 0, 0, 0, 1, 1, 0, 0, 0, 0, 0, 1, 1 },
+    /* undo  */ { 1, 0, 0, 0, 0, 0, 1, 1, 1, 0, 0, 0, 0, 0, 1, 1 },
     /* lights*/ { 1, 0, 0, 0, 0, 0, 0, 1, 1 },
     /* trace */ { 1, 1, 1, 1, 1, 1, 0, 0, 0, 0, 1, 1, 1, 1, 1, 0, 1 },
     /* ready.*/ { 1, 0, 0, 0, 0, 0, 0, 1, 1, 0, 1, 1, 0, 0, 0, 0, 1 }
@@ -94,7 +106,7 @@ static void *room(size_t len)
 }
 
 /* ------------------------------------------------------------------ */
-/* States as bytes, and H                                             */
+/* States as bytes, kept buffers, and H                               */
 /* ------------------------------------------------------------------ */
 
 static void pack_state(const struct ind_state *s, uint8_t out[STATE_BYTES])
@@ -143,6 +155,55 @@ static struct ind_state unpack_state(const uint8_t in[STATE_BYTES])
     return s;
 }
 
+/* The bytes of a kept place, as docs/KEPT.md has them: a priority is 32,768
+ * higher, and 16 bytes before n and 4 behind m are zero. */
+static void pack_kept(const struct ind_state *s, uint8_t out[IND_KEPT_PLACE])
+{
+    uint8_t packed[STATE_BYTES];
+
+    pack_state(s, packed);
+    memset(out, 0, IND_KEPT_PLACE);
+    memcpy(out, packed, 160);
+    for (int i = 145; i < 160; i += 2)
+        out[i] ^= 128;
+    memcpy(out + 176, packed + 160, 4);
+}
+
+/* The kept buffer that a field describes, in memory of its own of just its
+ * length; null where the field describes none. */
+static uint8_t *expand(const uint8_t *field, size_t len, size_t *buflen)
+{
+    size_t at = 3;
+    uint8_t *buf;
+
+    if (len < 3)
+        return NULL;
+    *buflen = (size_t)field[0] | (size_t)field[1] << 8;
+    buf = room(*buflen);
+    for (size_t i = 0; i < *buflen; i++)
+        buf[i] = (uint8_t)(field[2] * (i + 1) & 255);
+    while (at < len) {
+        size_t to, count;
+
+        if (len - at < 4)
+            break;
+        to = (size_t)field[at] | (size_t)field[at + 1] << 8;
+        count = (size_t)field[at + 2] | (size_t)field[at + 3] << 8;
+        at += 4;
+        if (len - at < count)
+            break;
+        for (size_t i = 0; i < count; i++)
+            if (to + i < *buflen)
+                buf[to + i] = field[at + i];
+        at += count;
+    }
+    if (at < len) {
+        free(buf);
+        return NULL;
+    }
+    return buf;
+}
+
 static uint32_t hash(const uint8_t *p, size_t len)
 {
     uint32_t h = 7;
@@ -164,7 +225,8 @@ static uint32_t hash_state(const struct ind_state *s)
 /* Reading and answering a case                                       */
 /* ------------------------------------------------------------------ */
 
-/* Each field has memory of its own of just its length. */
+/* Each field has memory of its own of just its length; that of a kept buffer is
+ * the buffer itself. */
 struct one {
     uint8_t call;
     struct {
@@ -172,6 +234,18 @@ struct one {
         size_t len;
     } f[MAX_FIELDS];
 };
+
+/* Which field is the log; the kept buffer's is the next. */
+static size_t log_field(uint8_t call)
+{
+    return call == START ? 3 : 2;
+}
+
+/* Whether the call is lent a log and a kept buffer. */
+static int is_logged(uint8_t call)
+{
+    return call >= START && call <= UNDO;
+}
 
 /* Reads the case at *at and moves *at past it.  Answers 0 where the stream is
  * no stream of cases. */
@@ -196,13 +270,24 @@ static int take_case(struct one *c, const uint8_t *bytes, size_t len,
         memcpy(c->f[i].p, bytes + *at, n);
         *at += n;
     }
+    if (is_logged(c->call)) {
+        size_t i = log_field(c->call) + 1;
+        size_t buflen = 0;
+        uint8_t *buf = expand(c->f[i].p, c->f[i].len, &buflen);
+
+        if (buf == NULL)
+            return 0;
+        free(c->f[i].p);
+        c->f[i].p = buf;
+        c->f[i].len = buflen;
+    }
     switch (c->call) {
     case START:
         return c->f[1].len == 1;
     case STEP:
-        return c->f[1].len == STATE_BYTES && c->f[3].len == 2;
+        return c->f[1].len == STATE_BYTES && c->f[4].len == 2;
     case RUN:
-        return c->f[1].len == STATE_BYTES && c->f[4].len == 8;
+        return c->f[1].len == STATE_BYTES && c->f[5].len == 8;
     case UNDO:
     case LIGHTS:
         return c->f[1].len == STATE_BYTES;
@@ -219,19 +304,36 @@ static void drop_case(struct one *c)
         free(c->f[i].p);
 }
 
+/* A copy of a lent buffer: of build's, of a log, of a kept buffer. */
+struct copy {
+    const uint8_t *now;
+    uint8_t *then;
+    size_t len;
+};
+
+static void copy_field(struct copy *copy, const struct one *c, size_t i)
+{
+    copy->now = c->f[i].p;
+    copy->len = c->f[i].len;
+    copy->then = room(copy->len);
+    if (copy->len > 0)
+        memcpy(copy->then, copy->now, copy->len);
+}
+
 /* Stops the program unless a refusal left the lent bytes and the state as the
  * document says: "the state given (start and lights: all zeros) and writes to
  * no lent buffer". */
-static void hold(uint8_t number, const uint8_t *then, const uint8_t *now,
-                 size_t len, const struct ind_state *want,
-                 const struct ind_state *got)
+static void hold(uint8_t number, const struct copy lent[2],
+                 const struct ind_state *want, const struct ind_state *got)
 {
     uint8_t x[STATE_BYTES], y[STATE_BYTES];
 
     if (number == IND_FINE)
         return;
-    if (memcmp(then, now, len) != 0)
-        die("a refusal wrote to a lent buffer");
+    for (int i = 0; i < 2; i++)
+        if (lent[i].len > 0
+            && memcmp(lent[i].then, lent[i].now, lent[i].len) != 0)
+            die("a refusal wrote to a lent buffer");
     if (want != NULL) {
         pack_state(want, x);
         pack_state(got, y);
@@ -245,18 +347,15 @@ static void hold(uint8_t number, const uint8_t *then, const uint8_t *now,
 static uint8_t answer_case(struct one *c, FILE *out)
 {
     static const struct ind_state zero;
-    uint8_t number = 0, *then = NULL;
-    size_t lent = 0;
+    struct copy lent[2] = { { NULL, NULL, 0 }, { NULL, NULL, 0 } };
+    uint8_t number = 0;
 
     if (c->call == BUILD)
-        lent = 1;
-    else if (c->call == START)
-        lent = 3;
-    else if (c->call >= STEP && c->call <= UNDO)
-        lent = 2;
-    then = room(c->f[lent].len);
-    if (c->f[lent].len > 0)
-        memcpy(then, c->f[lent].p, c->f[lent].len);
+        copy_field(&lent[0], c, 1);
+    if (is_logged(c->call)) {
+        copy_field(&lent[0], c, log_field(c->call));
+        copy_field(&lent[1], c, log_field(c->call) + 1);
+    }
 
     switch (c->call) {
     case CHECK: {
@@ -272,7 +371,7 @@ static uint8_t answer_case(struct one *c, FILE *out)
                                               c->f[1].p, c->f[1].len);
 
         number = a.number;
-        hold(number, then, c->f[1].p, c->f[1].len, NULL, NULL);
+        hold(number, lent, NULL, NULL);
         if (out != NULL)
             fprintf(out, "2 %u %u %u %lu\n", a.number, a.place, a.count,
                     (unsigned long)hash(c->f[1].p, c->f[1].len));
@@ -282,28 +381,32 @@ static uint8_t answer_case(struct one *c, FILE *out)
         struct ind_state_answer a = ind_start(c->f[0].p, c->f[0].len,
                                               c->f[1].p[0],
                                               c->f[2].p, c->f[2].len,
-                                              c->f[3].p, c->f[3].len);
+                                              c->f[3].p, c->f[3].len,
+                                              c->f[4].p, c->f[4].len);
 
         number = a.number;
-        hold(number, then, c->f[3].p, c->f[3].len, &zero, &a.state);
+        hold(number, lent, &zero, &a.state);
         if (out != NULL)
-            fprintf(out, "3 %u %lu %lu\n", a.number,
+            fprintf(out, "3 %u %lu %lu %lu\n", a.number,
                     (unsigned long)hash_state(&a.state),
-                    (unsigned long)hash(c->f[3].p, c->f[3].len));
+                    (unsigned long)hash(c->f[3].p, c->f[3].len),
+                    (unsigned long)hash(c->f[4].p, c->f[4].len));
         break;
     }
     case STEP: {
         struct ind_state given = unpack_state(c->f[1].p);
         struct ind_state_answer a = ind_step(c->f[0].p, c->f[0].len, given,
                                              c->f[2].p, c->f[2].len,
-                                             c->f[3].p[0], c->f[3].p[1]);
+                                             c->f[3].p, c->f[3].len,
+                                             c->f[4].p[0], c->f[4].p[1]);
 
         number = a.number;
-        hold(number, then, c->f[2].p, c->f[2].len, &given, &a.state);
+        hold(number, lent, &given, &a.state);
         if (out != NULL)
-            fprintf(out, "4 %u %lu %lu\n", a.number,
+            fprintf(out, "4 %u %lu %lu %lu\n", a.number,
                     (unsigned long)hash_state(&a.state),
-                    (unsigned long)hash(c->f[2].p, c->f[2].len));
+                    (unsigned long)hash(c->f[2].p, c->f[2].len),
+                    (unsigned long)hash(c->f[3].p, c->f[3].len));
         break;
     }
     case RUN: {
@@ -312,28 +415,31 @@ static uint8_t answer_case(struct one *c, FILE *out)
         uint64_t most = 0;
 
         for (int i = 0; i < 8; i++)
-            most |= (uint64_t)c->f[4].p[i] << 8 * i;
+            most |= (uint64_t)c->f[5].p[i] << 8 * i;
         if (most > SIZE_MAX)
             most = SIZE_MAX;
         a = ind_run(c->f[0].p, c->f[0].len, given, c->f[2].p, c->f[2].len,
-                    c->f[3].p, c->f[3].len, (size_t)most);
+                    c->f[3].p, c->f[3].len, c->f[4].p, c->f[4].len,
+                    (size_t)most);
         number = a.number;
         if (a.steps == 0)
-            hold(number, then, c->f[2].p, c->f[2].len, &given, &a.state);
+            hold(number, lent, &given, &a.state);
         if (out != NULL)
-            fprintf(out, "5 %u %lu %lu %lu\n", a.number,
+            fprintf(out, "5 %u %lu %lu %lu %lu\n", a.number,
                     (unsigned long)a.steps,
                     (unsigned long)hash_state(&a.state),
-                    (unsigned long)hash(c->f[2].p, c->f[2].len));
+                    (unsigned long)hash(c->f[2].p, c->f[2].len),
+                    (unsigned long)hash(c->f[3].p, c->f[3].len));
         break;
     }
     case UNDO: {
         struct ind_state given = unpack_state(c->f[1].p);
         struct ind_state_answer a = ind_undo(c->f[0].p, c->f[0].len, given,
-                                             c->f[2].p, c->f[2].len);
+                                             c->f[2].p, c->f[2].len,
+                                             c->f[3].p, c->f[3].len);
 
         number = a.number;
-        hold(number, then, c->f[2].p, c->f[2].len, &given, &a.state);
+        hold(number, lent, &given, &a.state);
         if (out != NULL)
             fprintf(out, "6 %u %lu\n", a.number,
                     (unsigned long)hash_state(&a.state));
@@ -380,7 +486,8 @@ static uint8_t answer_case(struct one *c, FILE *out)
         break;
     }
     }
-    free(then);
+    free(lent[0].then);
+    free(lent[1].then);
     return number;
 }
 
@@ -421,6 +528,68 @@ static void state_field(struct writer *w, const struct ind_state *s)
 
     pack_state(s, bytes);
     field(w, bytes, sizeof bytes);
+}
+
+/* A kept buffer's field being made. */
+struct lent {
+    uint8_t bytes[1 << 14];
+    size_t len;
+};
+
+/* A buffer of this length and fill, without a patch. */
+static void lend(struct lent *k, size_t length, uint8_t fill)
+{
+    k->bytes[0] = (uint8_t)(length & 255);
+    k->bytes[1] = (uint8_t)(length >> 8);
+    k->bytes[2] = fill;
+    k->len = 3;
+}
+
+static void patch(struct lent *k, size_t at, const uint8_t *p, size_t count)
+{
+    uint8_t *to = k->bytes + k->len;
+
+    if (at > 65535 || k->len + 4 + count > sizeof k->bytes)
+        die("a patch too many");
+    to[0] = (uint8_t)(at & 255);
+    to[1] = (uint8_t)(at >> 8);
+    to[2] = (uint8_t)(count & 255);
+    to[3] = (uint8_t)(count >> 8);
+    memcpy(to + 4, p, count);
+    k->len += 4 + count;
+}
+
+/* Where kept place j begins. */
+static size_t place_at(size_t j)
+{
+    return IND_KEPT_PLACE * (j - 1);
+}
+
+/* Patches kept place j with the state. */
+static void patch_state(struct lent *k, size_t j, const struct ind_state *s)
+{
+    uint8_t bytes[IND_KEPT_PLACE];
+
+    pack_kept(s, bytes);
+    patch(k, place_at(j), bytes, sizeof bytes);
+}
+
+/* Patches a byte of kept place j. */
+static void patch_byte(struct lent *k, size_t j, size_t at, uint8_t value)
+{
+    patch(k, place_at(j) + at, &value, 1);
+}
+
+/* The kept place that an undo from m steps uses; 0 where it uses none. */
+static size_t place_used(size_t m)
+{
+    return m == 0 || m > IND_MAX_STEPS ? 0 : (m - 1) / IND_KEPT_EVERY;
+}
+
+/* Some junk: each case has another fill, and one in 256 has zeros. */
+static void lend_junk(struct lent *k, const struct writer *w)
+{
+    lend(k, IND_KEPT_BYTES, (uint8_t)(7 * w->cases & 255));
 }
 
 /* Writes the case out and counts it.  It is read back the way that the
@@ -467,21 +636,24 @@ static void case_build(struct writer *w, const uint8_t *file, size_t len,
     free(buf);
 }
 
-static void case_start(struct writer *w, const uint8_t *list, size_t len,
-                       uint8_t b, const uint8_t *resets, size_t nresets,
-                       const uint8_t *log, size_t loglen)
+static void case_start_kept(struct writer *w, const uint8_t *list, size_t len,
+                            uint8_t b, const uint8_t *resets, size_t nresets,
+                            const uint8_t *log, size_t loglen,
+                            const struct lent *kept)
 {
     open_case(w, START);
     field(w, list, len);
     field(w, &b, 1);
     field(w, resets, nresets);
     field(w, log, loglen);
+    field(w, kept->bytes, kept->len);
     close_case(w);
 }
 
-static void case_step(struct writer *w, const uint8_t *list, size_t len,
-                      const struct ind_state *s, const uint8_t *log,
-                      size_t loglen, uint8_t station, uint8_t reset)
+static void case_step_kept(struct writer *w, const uint8_t *list, size_t len,
+                           const struct ind_state *s, const uint8_t *log,
+                           size_t loglen, const struct lent *kept,
+                           uint8_t station, uint8_t reset)
 {
     uint8_t pick[2];
 
@@ -491,14 +663,15 @@ static void case_step(struct writer *w, const uint8_t *list, size_t len,
     field(w, list, len);
     state_field(w, s);
     field(w, log, loglen);
+    field(w, kept->bytes, kept->len);
     field(w, pick, 2);
     close_case(w);
 }
 
-static void case_run(struct writer *w, const uint8_t *list, size_t len,
-                     const struct ind_state *s, const uint8_t *log,
-                     size_t loglen, const uint8_t *picks, size_t plen,
-                     uint64_t most)
+static void case_run_kept(struct writer *w, const uint8_t *list, size_t len,
+                          const struct ind_state *s, const uint8_t *log,
+                          size_t loglen, const struct lent *kept,
+                          const uint8_t *picks, size_t plen, uint64_t most)
 {
     uint8_t number[8];
 
@@ -508,20 +681,70 @@ static void case_run(struct writer *w, const uint8_t *list, size_t len,
     field(w, list, len);
     state_field(w, s);
     field(w, log, loglen);
+    field(w, kept->bytes, kept->len);
     field(w, picks, plen);
     field(w, number, 8);
     close_case(w);
+}
+
+static uint8_t case_undo_kept(struct writer *w, const uint8_t *list,
+                              size_t len, const struct ind_state *s,
+                              const uint8_t *log, size_t loglen,
+                              const struct lent *kept)
+{
+    open_case(w, UNDO);
+    field(w, list, len);
+    state_field(w, s);
+    field(w, log, loglen);
+    field(w, kept->bytes, kept->len);
+    return close_case(w);
+}
+
+/* The same four with a kept buffer of junk.  Where an undo uses a kept place,
+ * it holds the state given, with that place's m. */
+static void case_start(struct writer *w, const uint8_t *list, size_t len,
+                       uint8_t b, const uint8_t *resets, size_t nresets,
+                       const uint8_t *log, size_t loglen)
+{
+    struct lent kept;
+
+    lend_junk(&kept, w);
+    case_start_kept(w, list, len, b, resets, nresets, log, loglen, &kept);
+}
+
+static void case_step(struct writer *w, const uint8_t *list, size_t len,
+                      const struct ind_state *s, const uint8_t *log,
+                      size_t loglen, uint8_t station, uint8_t reset)
+{
+    struct lent kept;
+
+    lend_junk(&kept, w);
+    case_step_kept(w, list, len, s, log, loglen, &kept, station, reset);
+}
+
+static void case_run(struct writer *w, const uint8_t *list, size_t len,
+                     const struct ind_state *s, const uint8_t *log,
+                     size_t loglen, const uint8_t *picks, size_t plen,
+                     uint64_t most)
+{
+    struct lent kept;
+
+    lend_junk(&kept, w);
+    case_run_kept(w, list, len, s, log, loglen, &kept, picks, plen, most);
 }
 
 static void case_undo(struct writer *w, const uint8_t *list, size_t len,
                       const struct ind_state *s, const uint8_t *log,
                       size_t loglen)
 {
-    open_case(w, UNDO);
-    field(w, list, len);
-    state_field(w, s);
-    field(w, log, loglen);
-    close_case(w);
+    struct ind_state there = *s;
+    struct lent kept;
+
+    lend_junk(&kept, w);
+    there.m = (uint16_t)(IND_KEPT_EVERY * place_used(s->m));
+    if (there.m > 0)
+        patch_state(&kept, place_used(s->m), &there);
+    case_undo_kept(w, list, len, s, log, loglen, &kept);
 }
 
 static uint8_t case_lights(struct writer *w, const uint8_t *list, size_t len,
@@ -558,13 +781,15 @@ static void case_trace(struct writer *w, const struct sequence *program,
 /* Lists being run                                                    */
 /* ------------------------------------------------------------------ */
 
-/* A list with a state and a log; the log has room for any run. */
+/* A list with a state, a log and a kept buffer; the log has room for any
+ * run. */
 struct press {
     uint8_t list[IND_ITEM * (IND_MAX_ITEMS + 1)];
     size_t len;
     size_t n;
     struct ind_state state;
     uint8_t log[2 * (IND_STATIONS + IND_MAX_STEPS + 2)];
+    uint8_t kept[IND_KEPT_BYTES];
 };
 
 /* Builds the sequence into the press. */
@@ -581,13 +806,15 @@ static void load(struct press *x, const struct sequence *p)
         x->n++;
 }
 
-/* Starts the press; its log is filled with marks first. */
+/* Starts the press; its log and its kept buffer are filled with marks first. */
 static void set_going(struct press *x, uint8_t b, const uint8_t *resets)
 {
     struct ind_state_answer s;
 
     memset(x->log, 0xEE, sizeof x->log);
-    s = ind_start(x->list, x->len, b, resets, x->n, x->log, sizeof x->log);
+    memset(x->kept, 0xEE, sizeof x->kept);
+    s = ind_start(x->list, x->len, b, resets, x->n, x->log, sizeof x->log,
+                  x->kept, sizeof x->kept);
     if (s.number != IND_FINE)
         die("a start meant to be taken was refused");
     x->state = s.state;
@@ -597,10 +824,31 @@ static void set_going(struct press *x, uint8_t b, const uint8_t *resets)
 static size_t go(struct press *x, const uint8_t *picks, size_t count)
 {
     struct ind_run_answer r = ind_run(x->list, x->len, x->state, x->log,
-                                      sizeof x->log, picks, 2 * count, count);
+                                      sizeof x->log, x->kept, sizeof x->kept,
+                                      picks, 2 * count, count);
 
     x->state = r.state;
     return r.steps;
+}
+
+/* Patches kept place j, where there is one, with the press's. */
+static void patch_place(struct lent *k, const struct press *x, size_t j)
+{
+    if (j >= 1 && j <= IND_KEPT_PLACES)
+        patch(k, place_at(j), x->kept + place_at(j), IND_KEPT_PLACE);
+}
+
+/* The undo of a state with the kept place that it uses as the press's run left
+ * it, and junk elsewhere. */
+static void run_undo(struct writer *w, const struct press *x,
+                     const struct ind_state *s, const uint8_t *log,
+                     size_t loglen)
+{
+    struct lent kept;
+
+    lend_junk(&kept, w);
+    patch_place(&kept, x, place_used(s->m));
+    case_undo_kept(w, x->list, x->len, s, log, loglen, &kept);
 }
 
 /* The length of a log that holds the standing steps and `more`. */
@@ -801,10 +1049,12 @@ static void bench_run(struct writer *w)
     go(&x, dryer_picks + 2, 1);
     case_lights(w, x.list, x.len, &x.state);
     case_undo(w, x.list, x.len, &x.state, x.log, log_length(&x, 0));
-    x.state = ind_undo(x.list, x.len, x.state, x.log, sizeof x.log).state;
+    x.state = ind_undo(x.list, x.len, x.state, x.log, sizeof x.log, x.kept,
+                       sizeof x.kept).state;
     case_lights(w, x.list, x.len, &x.state);
     case_undo(w, x.list, x.len, &x.state, x.log, log_length(&x, 0));
-    x.state = ind_undo(x.list, x.len, x.state, x.log, sizeof x.log).state;
+    x.state = ind_undo(x.list, x.len, x.state, x.log, sizeof x.log, x.kept,
+                       sizeof x.kept).state;
     case_lights(w, x.list, x.len, &x.state);
     case_undo(w, x.list, x.len, &x.state, x.log, log_length(&x, 0));
 
@@ -812,8 +1062,8 @@ static void bench_run(struct writer *w)
 }
 
 /* Each refusal of start, step, run, undo, lights and trace by itself, and
- * where two meet, the one that comes first; readiness stands in a part of its
- * own below.
+ * where two meet, the one that comes first; readiness, and 6 and 8 by the kept
+ * buffer, stand in parts of their own below.
  *
  * Which case reaches which number, one for each (many have more):
  *
@@ -829,8 +1079,8 @@ static void bench_run(struct writer *w)
  *           behind two steps; 16 the Dryer's station 0 twice; 11 its station 1
  *           first; 12 P10 with the refused pick in the run; 13 (0,3) behind
  *           two steps, B = 2
- *   undo    0 P12; 7 the list cut; 8 n = 1; 14 at the start; 15 a log short
- *           by one byte
+ *   undo    0 P12; 7 the list cut; 8 n = 1; 14 at the start; 6 a kept buffer
+ *           of 11,775 bytes; 15 a log short by one byte
  *   lights  0 P11; 7 the list cut; 8 n = 3
  *   trace   0 the Dryer's; 1 no program, and one byte of picks; 2 SET of
  *           variable 32; 3 nine stations; 4 a station without a statement; 5
@@ -1258,8 +1508,8 @@ static void limits(struct writer *w)
     case_step(w, x.list, x.len, &x.state, x.log, 8194, 0, 0);
     go(&x, picks, 1);
     case_step(w, x.list, x.len, &x.state, x.log, 4, 0, 0);
-    case_undo(w, x.list, x.len, &x.state, x.log, 8194);
-    case_undo(w, x.list, x.len, &x.state, x.log, 8193);
+    run_undo(w, &x, &x.state, x.log, 8194);
+    run_undo(w, &x, &x.state, x.log, 8193);
     for (size_t i = 4096; i < 8192; i += 2)
         picks[i] = 255;
     case_trace(w, &p, zeros, 2, picks, 8192);     /* half of it withdrawn */
@@ -1746,7 +1996,8 @@ static void readiness(struct writer *w)
     each_station(w, &x, &x.state);
     go(&x, dryer_picks + 2, 1);
     each_station(w, &x, &x.state);
-    x.state = ind_undo(x.list, x.len, x.state, x.log, sizeof x.log).state;
+    x.state = ind_undo(x.list, x.len, x.state, x.log, sizeof x.log, x.kept,
+                       sizeof x.kept).state;
     each_station(w, &x, &x.state);
 
     /* 7, before 8 and 10: no list, half a record, a record cut off, a STOP
@@ -2093,7 +2344,8 @@ static void light_and_step(struct writer *w, struct press *x, uint8_t station)
 static void light_and_undo(struct writer *w, struct press *x)
 {
     struct ind_state_answer u = ind_undo(x->list, x->len, x->state, x->log,
-                                         sizeof x->log);
+                                         sizeof x->log, x->kept,
+                                         sizeof x->kept);
 
     case_lights(w, x->list, x->len, &x->state);
     case_undo(w, x->list, x->len, &x->state, x->log, log_length(x, 0));
@@ -2414,6 +2666,901 @@ static void foreign_waiting(struct writer *w)
 }
 
 /* ------------------------------------------------------------------ */
+/* Kept states                                                        */
+/* ------------------------------------------------------------------ */
+
+/* n stations that never end: the initial part gives `vars` variables numbers
+ * whose four bytes are all other than zero, station 1 waits for station 0 by
+ * turns. */
+static void wheels(struct sequence *p, uint8_t n, uint8_t vars)
+{
+    p->len = 0;
+    for (uint8_t v = 0; v < vars; v++)
+        add(p, IND_SET, (uint8_t)(31 - v), 0, 0,
+            0x11213141 + 0x03050709 * (uint32_t)v);
+    if (vars > 1)
+        add(p, IND_SET, 30, 0, 0, 0);
+    for (uint8_t i = 0; i < n; i++) {
+        add_bare(p, IND_STATION);
+        add(p, IND_WHILE, 0, 31, 4, 31);
+        add(p, IND_SET, i, i, 2, 0x01030507 + 2u * i);
+        if (i == 0)
+            add(p, IND_SET, 30, 30, 2, 1);
+        if (i == 1) {
+            add(p, IND_AWAIT, 0, 30, 3, 1);
+            add(p, IND_SET, 30, 30, 3, 1);
+            add_bare(p, IND_END);
+        }
+        add(p, IND_SET, (uint8_t)(8 + i), (uint8_t)(8 + i), 5, i);
+        add_bare(p, IND_OD);
+    }
+}
+
+/* A list of n stations, each a SKIP that leads to itself: all are always
+ * ready, and no variable is touched. */
+static void skips(struct press *x, size_t n)
+{
+    uint8_t fields[IND_RECORD] = { 0 };
+
+    for (size_t j = 0; j < n; j++) {
+        fields[0] = IND_INIT;
+        fields[1] = (uint8_t)j;
+        put_item(x->list + IND_ITEM * j, fields, j, 0, n + j, 0);
+        fields[0] = IND_SKIP;
+        fields[1] = 0;
+        put_item(x->list + IND_ITEM * (n + j), fields, j, 0, n + j, 0);
+    }
+    x->len = 2 * IND_ITEM * n;
+    x->n = n;
+}
+
+/* One of two ways to go on: the first station in turn or the last, with a
+ * reset that goes with m. */
+static void way_pick(const struct press *x, int way, uint8_t pick[2])
+{
+    uint8_t in_turn = ind_lights(x->list, x->len, x->state).in_turn;
+    unsigned reset = way == 0 ? 5u * x->state.m : 3u * x->state.m + 1;
+    uint8_t i = way == 0 ? 0 : IND_STATIONS - 1;
+
+    if (in_turn == 0)
+        die("nobody is in turn");
+    while ((in_turn >> i & 1) == 0)
+        i = (uint8_t)(way == 0 ? i + 1 : i - 1);
+    pick[0] = i;
+    pick[1] = (uint8_t)(reset % (x->state.b + 1u));
+}
+
+/* Takes steps of the way until m stand; puts the picks where `picks` points,
+ * unless that is null. */
+static void go_to(struct press *x, int way, size_t m, uint8_t *picks)
+{
+    while (x->state.m < m) {
+        uint8_t pick[2];
+
+        way_pick(x, way, pick);
+        if (picks != NULL) {
+            memcpy(picks, pick, 2);
+            picks += 2;
+        }
+        if (go(x, pick, 1) != 1)
+            die("a step meant to be taken was refused");
+    }
+}
+
+/* Withdraws steps until m stand. */
+static void back_to(struct press *x, size_t m)
+{
+    while (x->state.m > m) {
+        struct ind_state_answer u = ind_undo(x->list, x->len, x->state, x->log,
+                                             sizeof x->log, x->kept,
+                                             sizeof x->kept);
+
+        if (u.number != IND_FINE)
+            die("an undo meant to be taken was refused");
+        x->state = u.state;
+    }
+}
+
+/* Resets for a start that rise up to B. */
+static void some_resets(uint8_t b, uint8_t resets[IND_STATIONS])
+{
+    for (unsigned i = 0; i < IND_STATIONS; i++)
+        resets[i] = (uint8_t)((i + 1) * b / IND_STATIONS);
+}
+
+/* Resets that a B of 2 allows. */
+static const uint8_t low_resets[IND_STATIONS] = { 0, 2, 1, 0, 2 };
+
+/* Junk with the press's kept place that the undo from m steps uses and the two
+ * beside it, as the run left them. */
+static void lend_about(struct lent *k, const struct writer *w,
+                       const struct press *x, size_t m)
+{
+    size_t q = place_used(m);
+
+    lend_junk(k, w);
+    for (size_t j = q > 0 ? q - 1 : 0; j <= q + 1; j++)
+        patch_place(k, x, j);
+}
+
+/* A long run by one RUN over junk, and undos from selected steps of it, down to
+ * the start. */
+static void deep_undo(struct writer *w, uint8_t n, uint8_t b, uint8_t vars,
+                      size_t most)
+{
+    static const uint16_t from[] = { 4096, 4095, 1000, 129, 128, 127, 66, 65,
+                                     64, 63, 2, 1 };
+    static struct sequence p;
+    static struct press x;
+    static struct lent kept;
+    static uint8_t picks[2 * IND_MAX_STEPS];
+    uint8_t resets[IND_STATIONS];
+
+    wheels(&p, n, vars);
+    load(&x, &p);
+    some_resets(b, resets);
+    lend_junk(&kept, w);
+    set_going(&x, b, resets);
+    case_start_kept(w, x.list, x.len, b, resets, n, x.log, 2u * n, &kept);
+    {
+        static uint8_t marks[sizeof x.log];
+        struct ind_state first = x.state;
+        size_t full = 2 * ((size_t)n + most);
+
+        memset(marks, 0xEE, sizeof marks);
+        memcpy(marks, x.log, 2u * n);
+        go_to(&x, 0, most, picks);
+        lend_junk(&kept, w);
+        case_run_kept(w, x.list, x.len, &first, marks, full, &kept, picks,
+                      2 * most, UINT64_MAX);
+    }
+    for (size_t i = 0; i < sizeof from / sizeof from[0]; i++) {
+        if (from[i] > most)
+            continue;
+        back_to(&x, from[i]);
+        lend_about(&kept, w, &x, x.state.m);
+        if (case_undo_kept(w, x.list, x.len, &x.state, x.log,
+                           log_length(&x, 0), &kept) != IND_FINE)
+            die("an undo meant to be taken was refused");
+    }
+    back_to(&x, 0);
+    lend_about(&kept, w, &x, 0);
+    case_undo_kept(w, x.list, x.len, &x.state, x.log, log_length(&x, 0), &kept);
+}
+
+/* 4,096 steps with one station and with eight; 130 with the others. */
+static void deep_undos(struct writer *w)
+{
+    deep_undo(w, 1, 255, 32, 4096);
+    deep_undo(w, 8, 2, 4, 4096);
+    deep_undo(w, 2, 9, 4, 130);
+    deep_undo(w, 3, 5, 12, 130);
+    deep_undo(w, 4, 0, 0, 130);
+    deep_undo(w, 5, 1, 3, 130);
+    deep_undo(w, 6, 254, 0, 130);
+    deep_undo(w, 7, 4, 5, 130);
+}
+
+/* Undone past a multiple, taken another way, undone again: the RUN and the STEP
+ * that reach the multiple anew find the old state in its place, and the undos
+ * behind them the new one. */
+static void another_way(struct writer *w)
+{
+    static const struct {
+        uint8_t n, b;
+        uint16_t multiple, past, back;
+    } ways[] = {
+        { 2, 3, 64, 70, 60 }, { 3, 5, 128, 131, 127 }, { 5, 1, 64, 64, 63 },
+        { 8, 4, 192, 200, 120 }
+    };
+    static struct sequence p;
+    static struct press x, y;
+    static struct lent kept;
+    static uint8_t picks[2 * IND_MAX_STEPS];
+
+    for (size_t i = 0; i < sizeof ways / sizeof ways[0]; i++) {
+        size_t m = ways[i].multiple, j = m / IND_KEPT_EVERY;
+        uint8_t resets[IND_STATIONS], pick[2];
+
+        wheels(&p, ways[i].n, 0);
+        load(&x, &p);
+        some_resets(ways[i].b, resets);
+        set_going(&x, ways[i].b, resets);
+        go_to(&x, 0, ways[i].past, NULL);
+        back_to(&x, ways[i].back);
+
+        /* by RUN, over the old state and beyond */
+        y = x;
+        go_to(&y, 1, ways[i].past, picks);
+        if (memcmp(x.kept + place_at(j), y.kept + place_at(j),
+                   IND_KEPT_PLACE) == 0)
+            die("another way that leads to the same state");
+        lend_junk(&kept, w);
+        for (size_t k = 1; k <= j; k++)
+            patch_place(&kept, &x, k);
+        case_run_kept(w, x.list, x.len, &x.state, x.log, log_length(&y, 0),
+                      &kept, picks, 2 * (size_t)(y.state.m - x.state.m), 999);
+        /* by STEP */
+        go_to(&x, 1, m - 1, NULL);
+        way_pick(&x, 1, pick);
+        lend_junk(&kept, w);
+        patch_place(&kept, &x, j);
+        case_step_kept(w, x.list, x.len, &x.state, x.log, log_length(&x, 1),
+                       &kept, pick[0], pick[1]);
+        /* undone again, as the run left the buffer; with the old state it is
+         * another answer */
+        for (size_t from = m + 2 < y.state.m ? m + 2 : y.state.m; from >= m;
+             from--) {
+            back_to(&y, from);
+            lend_about(&kept, w, &y, from);
+            case_undo_kept(w, y.list, y.len, &y.state, y.log,
+                           log_length(&y, 0), &kept);
+            lend_about(&kept, w, &x, from);
+            patch_place(&kept, &x, j);
+            case_undo_kept(w, y.list, y.len, &y.state, y.log,
+                           log_length(&y, 0), &kept);
+        }
+    }
+
+    /* a start anew behind a run: the old states stay, and are not used */
+    wheels(&p, 3, 0);
+    load(&x, &p);
+    set_going(&x, 3, low_resets);
+    go_to(&x, 0, 140, NULL);
+    y = x;
+    set_going(&x, 2, low_resets);
+    memcpy(x.kept, y.kept, sizeof x.kept);
+    lend_junk(&kept, w);
+    patch(&kept, 0, x.kept, 3 * IND_KEPT_PLACE);
+    case_start_kept(w, x.list, x.len, 2, low_resets, 3, y.log, 6, &kept);
+    {
+        struct ind_state first = x.state;
+
+        go_to(&x, 1, 66, picks);
+        case_run_kept(w, x.list, x.len, &first, y.log, log_length(&x, 0),
+                      &kept, picks, 132, 66);
+    }
+    for (size_t from = 66; from >= 63; from--) {
+        back_to(&x, from);
+        lend_junk(&kept, w);
+        patch(&kept, 0, x.kept, 2 * IND_KEPT_PLACE);
+        case_undo_kept(w, x.list, x.len, &x.state, x.log, log_length(&x, 0),
+                       &kept);
+    }
+}
+
+/* Junk in the buffer: a START leaves it, a RUN across 64 and 128 writes two
+ * places of it.  Fills of all sorts, zeros among them. */
+static void over_junk(struct writer *w)
+{
+    static const uint8_t fill[] = { 0, 1, 7, 128, 255 };
+    static struct sequence p;
+    static struct press x;
+    static struct lent kept;
+    static uint8_t picks[2 * 130];
+
+    for (size_t i = 0; i < sizeof fill; i++) {
+        struct ind_state first;
+
+        wheels(&p, (uint8_t)(1 + i), 2);
+        load(&x, &p);
+        set_going(&x, 4, low_resets);
+        first = x.state;
+        lend(&kept, IND_KEPT_BYTES, fill[i]);
+        case_start_kept(w, x.list, x.len, 4, low_resets, x.n, x.log,
+                        log_length(&x, 0), &kept);
+        go_to(&x, (int)(i % 2), 130, picks);
+        case_run_kept(w, x.list, x.len, &first, x.log, log_length(&x, 0),
+                      &kept, picks, sizeof picks, 130);
+        /* from a sound kept state that is no run's, one place of many */
+        x.state.m = 64;
+        patch_state(&kept, 1, &x.state);
+        case_run_kept(w, x.list, x.len, &first, x.log, log_length(&x, 66),
+                      &kept, picks, sizeof picks, 63 + i);
+    }
+}
+
+/* Steps and runs about each multiple: at 62 to 65, 126 to 128, 191, 4,094 and
+ * 4,095; then the picks that a step refuses there. */
+static void reach(struct writer *w)
+{
+    static const uint16_t at[] = { 62, 63, 64, 65, 126, 127, 128, 191, 4094,
+                                   4095 };
+    static struct press x;
+    static struct lent kept;
+    static const uint8_t resets[8] = { 2, 0, 1 };
+
+    skips(&x, 3);
+    set_going(&x, 6, resets);
+    for (size_t i = 0; i < sizeof at / sizeof at[0]; i++) {
+        uint8_t picks[10];
+        static struct press y;
+        size_t ahead = at[i] > 4000 ? IND_MAX_STEPS - at[i] : 5;
+        size_t last = at[i] + (ahead < 5 ? ahead : 5);
+
+        go_to(&x, (int)(i % 2), at[i], NULL);
+        for (int v = 0; v < IND_VARS; v++)
+            x.state.var[v] = 0x21436587 + 0x01010101 * (uint32_t)(v + (int)i);
+        y = x;
+        go_to(&y, 1, last, picks);
+        lend_junk(&kept, w);
+        case_step_kept(w, x.list, x.len, &x.state, x.log, log_length(&x, 1),
+                       &kept, picks[0], picks[1]);
+        for (size_t most = 1; most <= last - at[i]; most++) {
+            if (at[i] > 4000 && most != 2)
+                continue;
+            lend_junk(&kept, w);
+            case_run_kept(w, x.list, x.len, &x.state, x.log,
+                          log_length(&x, most), &kept, picks,
+                          2 * (last - at[i]), most);
+        }
+    }
+
+    /* a step refused at 0, 63, 64 and 127 writes nothing: 6 by the log, 10, 12,
+     * 13; nor does a run whose first pick is refused */
+    for (int i = 0; i < 4; i++) {
+        static const uint16_t refused_at[4] = { 0, 63, 64, 127 };
+        uint8_t pick[2], high[2];
+        size_t full;
+
+        set_going(&x, 6, resets);
+        x.state.pri[1] = -2;
+        x.state.m = refused_at[i];
+        full = log_length(&x, 1);
+        way_pick(&x, 0, pick);
+        lend_junk(&kept, w);
+        case_step_kept(w, x.list, x.len, &x.state, x.log, full - 1, &kept,
+                       pick[0], pick[1]);
+        case_step_kept(w, x.list, x.len, &x.state, x.log, full, &kept, 3, 0);
+        case_step_kept(w, x.list, x.len, &x.state, x.log, full, &kept, 255, 0);
+        case_step_kept(w, x.list, x.len, &x.state, x.log, full, &kept, 2, 0);
+        case_step_kept(w, x.list, x.len, &x.state, x.log, full, &kept,
+                       pick[0], 7);
+        high[0] = pick[0];
+        high[1] = 7;
+        case_run_kept(w, x.list, x.len, &x.state, x.log, full, &kept, high, 2,
+                      9);
+    }
+
+    /* a run refused behind the step that reaches 64: that one is kept; and one
+     * refused at it */
+    for (uint16_t m = 62; m <= 64; m++) {
+        static const uint8_t picks[8] = { 1, 0, 1, 6, 1, 7, 0, 0 };
+
+        set_going(&x, 6, resets);
+        x.state.m = m;
+        x.state.pri[1] = -2;
+        lend_junk(&kept, w);
+        case_run_kept(w, x.list, x.len, &x.state, x.log, 2 * (3 + 70), &kept,
+                      picks, 8, 9);
+        case_run_kept(w, x.list, x.len, &x.state, x.log, log_length(&x, 1),
+                      &kept, picks, 8, 9);
+    }
+
+    /* 16 and 11 at 63: the Dryer */
+    {
+        static struct sequence p;
+
+        dryer(&p);
+        load(&x, &p);
+        set_going(&x, 1, resets + 3);
+        x.state.m = 63;
+        lend_junk(&kept, w);
+        case_step_kept(w, x.list, x.len, &x.state, x.log, 132, &kept, 1, 0);
+        case_step_kept(w, x.list, x.len, &x.state, x.log, 132, &kept, 0, 1);
+        x.state.pos[0]++;
+        x.state.var[0] = 1;
+        case_step_kept(w, x.list, x.len, &x.state, x.log, 132, &kept, 0, 0);
+        case_step_kept(w, x.list, x.len, &x.state, x.log, 132, &kept, 1, 1);
+    }
+}
+
+/* A sound state with m = 64q for a press of skips: variables with no byte of
+ * zero, priorities below zero and above. */
+static struct ind_state some_kept(const struct press *x, size_t q, uint8_t b)
+{
+    struct ind_state s = { { 0 }, { 0 }, { 0 }, 0, 0, 0 };
+
+    for (unsigned v = 0; v < IND_VARS; v++)
+        s.var[v] = 0xF1E2D3C4 - 0x07050301 * v;
+    for (size_t i = 0; i < x->n; i++) {
+        s.pos[i] = (uint16_t)(x->n + i);
+        s.pri[i] = (int16_t)(i % 3 == 1 ? b : -(int)(i / 2));
+    }
+    s.n = (uint8_t)x->n;
+    s.b = b;
+    s.m = (uint16_t)(IND_KEPT_EVERY * q);
+    return s;
+}
+
+/* A press of skips at `past` steps behind the kept state: its log has marks up
+ * to the record that is replayed first, so that nothing before can have been
+ * replayed. */
+static void stand_past(struct press *x, const struct ind_state *there,
+                       size_t past)
+{
+    memset(x->log, 0xEE, sizeof x->log);
+    x->state = *there;
+    go_to(x, 1, there->m + past, NULL);
+}
+
+/* A byte of the kept place that is used changed: with three stations one byte
+ * of each variable and every other byte of the place, up and down; with one and
+ * with eight the bytes of the positions and the priorities. */
+static void damaged_place(struct writer *w)
+{
+    static const struct {
+        uint8_t n, b, past;
+    } damaged[] = { { 3, 5, 1 }, { 1, 255, 2 }, { 8, 9, 1 } };
+    static struct press x;
+    static struct lent kept;
+
+    for (size_t i = 0; i < sizeof damaged / sizeof damaged[0]; i++) {
+        int whole = damaged[i].n == 3;
+        struct ind_state there;
+        uint8_t bytes[IND_KEPT_PLACE];
+
+        skips(&x, damaged[i].n);
+        there = some_kept(&x, 1, damaged[i].b);
+        pack_kept(&there, bytes);
+        stand_past(&x, &there, damaged[i].past);
+        for (size_t at = 0; at < IND_KEPT_PLACE; at++) {
+            int times = at < 128 ? at % 4 == at / 4 % 4 : 2;
+
+            if (!whole)
+                times = at >= 128 && at < 160;
+            for (int j = 0; j < times; j++) {
+                lend_junk(&kept, w);
+                patch_state(&kept, 1, &there);
+                patch_byte(&kept, 1, at,
+                           (uint8_t)(j == 0 ? bytes[at] + 1 : bytes[at] - 1));
+                case_undo_kept(w, x.list, x.len, &x.state, x.log,
+                               log_length(&x, 0), &kept);
+            }
+        }
+    }
+}
+
+/* The parts of a kept place in turn, each damaged in the two places beside the
+ * one that is used: 0 as before; some in the one that is used too. */
+static void damaged_beside(struct writer *w)
+{
+    static const struct {
+        uint8_t at, value;
+    } part[] = {
+        { 0, 1 }, { 63, 1 }, { 127, 255 }, { 128, 255 }, { 129, 1 },
+        { 133, 255 }, { 134, 1 }, { 143, 1 }, { 145, 255 }, { 148, 100 },
+        { 150, 1 }, { 159, 127 }, { 160, 1 }, { 175, 255 }, { 176, 0 },
+        { 177, 6 }, { 178, 1 }, { 179, 1 }, { 180, 1 }, { 181, 1 }, { 183, 255 }
+    };
+    static struct press x;
+    static struct lent kept;
+    struct ind_state there, beside_it;
+
+    skips(&x, 3);
+    there = some_kept(&x, 2, 5);
+    stand_past(&x, &there, 3);
+    beside_it = there;
+    for (size_t i = 0; i < sizeof part / sizeof part[0]; i++) {
+        for (int used = 0; used < (i % 3 == 0 ? 2 : 1); used++) {
+            lend_junk(&kept, w);
+            for (size_t j = 1; j <= 3; j++) {
+                beside_it.m = (uint16_t)(64 * j);
+                patch_state(&kept, j, &beside_it);
+                if ((j == 2) == used)
+                    patch_byte(&kept, j, part[i].at, part[i].value);
+            }
+            case_undo_kept(w, x.list, x.len, &x.state, x.log,
+                           log_length(&x, 0), &kept);
+        }
+    }
+}
+
+/* Kept states that are sound by themselves but not right here: m, B and n of
+ * another, the next place's, one of another list; B of the state given. */
+static void wrong_kept(struct writer *w)
+{
+    static const uint16_t m[] = { 0, 64, 319, 321, 256, 384, 576, 832, 4096 };
+    static struct press x;
+    static struct lent kept;
+    struct ind_state there, other;
+
+    skips(&x, 4);
+    there = some_kept(&x, 5, 3);
+    stand_past(&x, &there, 1);
+    for (size_t i = 0; i < sizeof m / sizeof m[0]; i++) {
+        other = there;
+        other.m = m[i];
+        lend_junk(&kept, w);
+        patch_state(&kept, 4, &there);           /* the right one beside it */
+        patch_state(&kept, 5, &other);
+        patch_state(&kept, 6, &there);
+        case_undo_kept(w, x.list, x.len, &x.state, x.log, log_length(&x, 0),
+                       &kept);
+    }
+    for (int i = 0; i < 12; i++) {
+        struct ind_state given = x.state;
+
+        other = there;
+        switch (i) {
+        case 0:                                  /* B above and below */
+            other.b = 4;
+            break;
+        case 1:
+            other.b = 2;
+            other.pri[1] = 2;
+            break;
+        case 2:                                  /* the given one's */
+            given.b = 4;
+            break;
+        case 3:                                  /* both: followed */
+            given.b = 4;
+            other.b = 4;
+            break;
+        case 4:
+            given.b = 255;
+            other.b = 255;
+            other.pri[1] = 255;
+            break;
+        case 5:                                  /* n */
+            other.n = 3;
+            other.pos[3] = 0;
+            other.pri[3] = 0;
+            break;
+        case 6:
+            other.n = 5;
+            break;
+        case 7:                                  /* one above B */
+            other.pri[0] = 4;
+            break;
+        case 8:                                  /* the rule on priorities */
+            for (int j = 0; j < 4; j++)
+                other.pri[j] = (int16_t)-j;
+            break;
+        case 9:
+            for (int j = 0; j < 4; j++)
+                other.pri[j] = (int16_t)-(j + (j == 2));
+            other.pri[3] = -3;
+            break;
+        case 10:                                 /* another's record */
+            other.pos[1] = 4;
+            break;
+        default:                                 /* an INIT */
+            other.pos[2] = 2;
+            break;
+        }
+        lend_junk(&kept, w);
+        patch_state(&kept, 5, &other);
+        case_undo_kept(w, x.list, x.len, &given, x.log, log_length(&x, 0),
+                       &kept);
+    }
+    /* what else the state given holds does not matter */
+    other = x.state;
+    for (int v = 0; v < IND_VARS; v++)
+        other.var[v] = ~other.var[v];
+    other.pri[0] = 3;
+    other.pri[2] = -1;
+    lend_junk(&kept, w);
+    patch_state(&kept, 5, &there);
+    case_undo_kept(w, x.list, x.len, &other, x.log, log_length(&x, 0), &kept);
+    other.m = 320;                               /* place 4: junk */
+    case_undo_kept(w, x.list, x.len, &other, x.log, log_length(&x, 0), &kept);
+    other.m = 385;                               /* place 6: junk */
+    case_undo_kept(w, x.list, x.len, &other, x.log, 2 * (4 + 385), &kept);
+}
+
+/* Positions of two bytes: one station, a chain of SKIPs, the step to the last
+ * of them kept, and the undo of one more. */
+static void far_positions(struct writer *w)
+{
+    enum { LAST = 299 };
+    static const uint8_t init[IND_RECORD] = { IND_INIT };
+    static const uint8_t skip[IND_RECORD] = { IND_SKIP };
+    static const uint8_t zeros[1];
+    static struct press x;
+    static struct lent kept;
+
+    put_item(x.list, init, 0, 0, 1, 0);
+    for (size_t i = 1; i <= LAST; i++)
+        put_item(x.list + IND_ITEM * i, skip, 0, 0, i < LAST ? i + 1 : LAST, 0);
+    x.len = IND_ITEM * (LAST + 1);
+    x.n = 1;
+    set_going(&x, 0, zeros);
+    x.state.pos[0] = LAST - 1;
+    x.state.m = 63;
+    lend_junk(&kept, w);
+    case_step_kept(w, x.list, x.len, &x.state, x.log, log_length(&x, 1), &kept,
+                   0, 0);
+    go_to(&x, 0, 65, NULL);
+    lend_about(&kept, w, &x, 65);
+    case_undo_kept(w, x.list, x.len, &x.state, x.log, log_length(&x, 0), &kept);
+}
+
+/* A kept state that is sound, with the right m and B, but not the run's: it is
+ * followed, and what the log says before it is not asked. */
+static void followed(struct writer *w)
+{
+    static struct sequence p;
+    static struct press x, y;
+    static struct lent kept;
+
+    for (uint8_t n = 1; n <= 8; n++) {
+        uint8_t resets[IND_STATIONS];
+        struct ind_state s;
+
+        /* another run's, with the records of the one run and of the other */
+        wheels(&p, n, 0);
+        load(&x, &p);
+        some_resets(3, resets);
+        set_going(&x, 3, resets);
+        y = x;
+        go_to(&x, 0, 68, NULL);
+        go_to(&y, 1, 68, NULL);
+        lend_junk(&kept, w);
+        patch_place(&kept, &y, 1);
+        for (uint16_t m = 65; m <= 68; m = (uint16_t)(m + 3)) {
+            s = x.state;
+            s.m = m;
+            case_undo_kept(w, x.list, x.len, &s, x.log, 2 * ((size_t)n + m),
+                           &kept);
+            case_undo_kept(w, x.list, x.len, &s, y.log, 2 * ((size_t)n + m),
+                           &kept);
+        }
+        /* none that any run reaches */
+        s = y.state;
+        for (unsigned v = 0; v < IND_VARS; v++)
+            s.var[v] = 0x98765432 + 0x11131517 * (v + n);
+        for (int i = 0; i < n; i++)
+            s.pri[i] = (int16_t)(i == n / 2 ? 3 : -(i / 2));
+        s.m = 64;
+        lend_junk(&kept, w);
+        patch_state(&kept, 1, &s);
+        for (uint16_t m = 65; m <= 66; m++) {
+            s.m = m;
+            case_undo_kept(w, x.list, x.len, &s, y.log, 2 * ((size_t)n + m),
+                           &kept);
+        }
+    }
+}
+
+/* A log damaged before record n+64q: no refusal.  From there to record n+m-2:
+ * 15.  Behind that: none.  Start records count where q is 0 alone. */
+static void damaged_log(struct writer *w)
+{
+    static const uint16_t from[] = { 1, 64, 65, 67, 128, 130 };
+    static struct press x;
+    static struct lent kept;
+    static const uint8_t resets[8] = { 1, 3, 0 };
+
+    skips(&x, 3);
+    set_going(&x, 3, resets);
+    go_to(&x, 0, 140, NULL);
+    for (size_t i = 0; i < sizeof from / sizeof from[0]; i++) {
+        size_t m = from[i], q = place_used(m);
+        size_t places[16], many = 0;
+        struct ind_state s = x.state;
+
+        s.m = (uint16_t)m;
+        places[many++] = 0;                      /* start records */
+        places[many++] = 2;
+        places[many++] = 3;                      /* the first step's */
+        if (m > 2)
+            places[many++] = 3 + m / 3;
+        if (q > 0) {
+            places[many++] = 3 + 64 * q - 1;
+            places[many++] = 3 + 64 * q;
+        }
+        if (m > 2)
+            places[many++] = 3 + m - 2;          /* the last one replayed */
+        places[many++] = 3 + m - 1;              /* the one withdrawn */
+        for (size_t j = 0; j < many; j++) {
+            uint8_t *r = x.log + 2 * places[j];
+            uint8_t was[2];
+
+            if (j > 0 && places[j] <= places[j - 1])
+                continue;
+            memcpy(was, r, 2);
+            for (int k = 0; k < 2; k++) {
+                if (k == 0)                      /* another station, or none */
+                    r[0] = (uint8_t)(j % 2 == 0 ? 255 : (was[0] + 1) % 3);
+                else                             /* above B */
+                    r[1] = 4;
+                lend_junk(&kept, w);
+                patch_place(&kept, &x, q);
+                case_undo_kept(w, x.list, x.len, &s, x.log, 2 * (3 + m),
+                               &kept);
+                memcpy(r, was, 2);
+            }
+        }
+    }
+}
+
+/* 6 by the kept buffer and where it comes in each call's order; a longer
+ * buffer. */
+static void kept_room(struct writer *w)
+{
+    static const size_t lengths[] = { 0, 1, 184, 11592, 11775, 11776, 11777,
+                                      12000, 65535 };
+    static struct press x;
+    static struct sequence p;
+    static struct lent kept, less;
+    static const uint8_t zeros[8];
+    static const uint8_t resets[8] = { 2, 0 };
+    static const uint8_t above[8] = { 0, 5 };
+    static const uint8_t picks[] = { 1, 1, 0, 4, 1, 0, 0, 0 };
+    struct ind_state s, full;
+    uint8_t pick[2];
+
+    skips(&x, 2);
+    /* every length in every call; run with a step and without one */
+    for (size_t i = 0; i < sizeof lengths / sizeof lengths[0]; i++) {
+        set_going(&x, 4, resets);
+        lend(&kept, lengths[i], (uint8_t)(3 + i));
+        case_start_kept(w, x.list, x.len, 4, resets, 2, x.log, 5, &kept);
+        case_start_kept(w, x.list, x.len, 4, resets, 2, x.log, 4, &kept);
+        case_step_kept(w, x.list, x.len, &x.state, x.log, 6, &kept, 1, 1);
+        case_run_kept(w, x.list, x.len, &x.state, x.log, 12, &kept, picks, 8,
+                      9);
+        case_run_kept(w, x.list, x.len, &x.state, x.log, 12, &kept, picks, 8,
+                      0);
+        case_run_kept(w, x.list, x.len, &x.state, x.log, 12, &kept, NULL, 0,
+                      9);
+        go_to(&x, 0, 2, NULL);
+        case_undo_kept(w, x.list, x.len, &x.state, x.log, 8, &kept);
+        s = some_kept(&x, 1, 4);
+        stand_past(&x, &s, 2);
+        patch_state(&kept, 1, &s);
+        case_undo_kept(w, x.list, x.len, &x.state, x.log, log_length(&x, 0),
+                       &kept);
+        s.m = 63;
+        x.state = s;
+        way_pick(&x, 0, pick);
+        case_step_kept(w, x.list, x.len, &s, x.log, log_length(&x, 1), &kept,
+                       pick[0], pick[1]);
+        s.m = 4095;
+        x.state = s;
+        if (lengths[i] == 11777)
+            case_step_kept(w, x.list, x.len, &s, x.log, log_length(&x, 1),
+                           &kept, pick[0], pick[1]);
+    }
+
+    /* start: 7, 13, then 6 */
+    lend(&less, IND_KEPT_BYTES - 1, 9);
+    case_start_kept(w, x.list, x.len - 16, 4, resets, 2, x.log, 4, &less);
+    case_start_kept(w, x.list, x.len - 16, 4, above, 1, x.log, 3, &less);
+    case_start_kept(w, x.list, x.len, 4, above, 2, x.log, 4, &less);
+    case_start_kept(w, x.list, x.len, 4, resets, 1, x.log, 3, &less);
+    case_start_kept(w, x.list, x.len, 4, resets, 2, x.log, 3, &less);
+    lend(&kept, IND_KEPT_BYTES, 9);
+    case_start_kept(w, x.list, x.len, 4, resets, 2, x.log, 3, &kept);
+    lend(&kept, 0, 0);
+    case_start_kept(w, x.list, x.len, 4, resets, 2, NULL, 0, &kept);
+
+    /* step: 7, 8, 9, 6 by the log, 6 by the kept buffer; then 10, 12, 13; run
+     * the same, and 1 before all */
+    set_going(&x, 4, resets);
+    full = x.state;
+    full.m = 4096;
+    s = x.state;
+    s.n = 1;
+    case_step_kept(w, x.list, x.len - 1, &s, x.log, 6, &less, 1, 1);
+    case_step_kept(w, x.list, x.len, &s, x.log, 6, &less, 1, 1);
+    case_step_kept(w, x.list, x.len, &full, x.log, 6, &less, 1, 1);
+    case_step_kept(w, x.list, x.len, &full, x.log, 6, &less, 9, 9);
+    case_step_kept(w, x.list, x.len, &x.state, x.log, 5, &less, 1, 1);
+    case_step_kept(w, x.list, x.len, &x.state, NULL, 0, &kept, 1, 1);
+    case_step_kept(w, x.list, x.len, &x.state, x.log, 6, &less, 2, 1);
+    case_step_kept(w, x.list, x.len, &x.state, x.log, 6, &less, 0, 1);
+    case_step_kept(w, x.list, x.len, &x.state, x.log, 6, &less, 1, 5);
+    for (uint64_t most = 0; most <= 1; most++) {
+        static const uint8_t station_2[2] = { 2, 0 };
+
+        case_run_kept(w, x.list, x.len, &x.state, x.log, 6, &less, picks, 1,
+                      most);
+        case_run_kept(w, x.list, x.len - 1, &s, x.log, 6, &less, picks, 2,
+                      most);
+        case_run_kept(w, x.list, x.len, &s, x.log, 6, &less, picks, 2, most);
+        case_run_kept(w, x.list, x.len, &full, x.log, 6, &less, picks, 2,
+                      most);
+        case_run_kept(w, x.list, x.len, &x.state, x.log, 5, &less, picks, 2,
+                      most);
+        case_run_kept(w, x.list, x.len, &x.state, x.log, 6, &less, station_2,
+                      2, most);
+        case_run_kept(w, x.list, x.len, &full, NULL, 0, &kept, NULL, 0, most);
+    }
+
+    /* 16 and 11 behind 6: the Dryer */
+    dryer(&p);
+    load(&x, &p);
+    set_going(&x, 0, zeros);
+    case_step_kept(w, x.list, x.len, &x.state, x.log, 6, &less, 1, 0);
+    case_step_kept(w, x.list, x.len, &x.state, x.log, 6, &less, 0, 0);
+    x.state.pos[0]++;
+    case_step_kept(w, x.list, x.len, &x.state, x.log, 6, &less, 0, 0);
+
+    /* undo: 7, 8, 14, 6, 8 by the kept state, 15 */
+    skips(&x, 2);
+    for (uint16_t m = 0; m <= 66; m = (uint16_t)(m == 2 ? 64 : m + 1)) {
+        size_t len;
+
+        set_going(&x, 4, resets);
+        go_to(&x, 0, m, NULL);
+        len = log_length(&x, 0);
+        for (int bad = 0; bad < 2; bad++) {
+            uint8_t was = x.log[len - 4];
+
+            lend(&kept, IND_KEPT_BYTES, 9);
+            lend(&less, IND_KEPT_BYTES - 1, 9);
+            if (m > 64) {
+                patch_place(&kept, &x, 1);
+                patch_place(&less, &x, 1);
+            }
+            if (bad) {
+                patch_byte(&kept, 1, 181, 1);
+                patch_byte(&less, 1, 181, 1);
+            }
+            for (size_t cut = 0; cut < 2 && cut <= len; cut++) {
+                case_undo_kept(w, x.list, x.len, &x.state, x.log, len - cut,
+                               &kept);
+                case_undo_kept(w, x.list, x.len, &x.state, x.log, len - cut,
+                               &less);
+            }
+            x.log[0] ^= 1;                       /* a start record */
+            case_undo_kept(w, x.list, x.len, &x.state, x.log, len, &kept);
+            x.log[0] ^= 1;
+            x.log[len - 4] = 9;                  /* the last one replayed */
+            case_undo_kept(w, x.list, x.len, &x.state, x.log, len, &kept);
+            x.log[len - 4] = was;
+        }
+        s = x.state;
+        s.n = 1;
+        case_undo_kept(w, x.list, x.len, &s, x.log, len, &less);
+        case_undo_kept(w, x.list, x.len - 16, &s, x.log, len, &less);
+        case_undo_kept(w, x.list, x.len - 16, &s, NULL, 0, &kept);
+    }
+}
+
+/* The trace over multiples of 64 and back: there, back, another way, back. */
+static void kept_traces(struct writer *w)
+{
+    static const struct {
+        uint8_t n, b;
+        uint16_t there, back, again, to;
+    } trips[] = {
+        { 1, 0, 66, 62, 66, 63 }, { 2, 3, 70, 60, 75, 0 },
+        { 3, 5, 130, 63, 130, 50 }, { 5, 1, 200, 120, 200, 180 },
+        { 8, 9, 129, 127, 129, 126 }, { 4, 0, 1000, 700, 1100, 600 }
+    };
+    static struct sequence p;
+    static struct press x;
+    static uint8_t picks[8192];
+
+    for (size_t i = 0; i < sizeof trips / sizeof trips[0]; i++) {
+        uint8_t start[1 + IND_STATIONS];
+        size_t count = 0;
+
+        wheels(&p, trips[i].n, 3);
+        load(&x, &p);
+        start[0] = trips[i].b;
+        some_resets(trips[i].b, start + 1);
+        set_going(&x, trips[i].b, start + 1);
+        for (int way = 0; way < 2; way++) {
+            size_t to = way == 0 ? trips[i].there : trips[i].again;
+            size_t back = way == 0 ? trips[i].back : trips[i].to;
+
+            go_to(&x, way, to, picks + 2 * count);
+            count += to - (way == 0 ? 0 : trips[i].back);
+            for (; to > back; to--, count++) {
+                picks[2 * count] = 255;
+                picks[2 * count + 1] = 0;
+            }
+            back_to(&x, back);
+        }
+        case_trace(w, &p, start, x.n + 1, picks, 2 * count);
+    }
+}
+
+/* ------------------------------------------------------------------ */
 /* Random cases                                                       */
 /* ------------------------------------------------------------------ */
 
@@ -2692,10 +3839,11 @@ static void history(struct writer *w, struct rng *g, struct press *x)
             }
             if (chance(g, 10) && s.m > 0)
                 s.m = (uint16_t)below(g, s.m + 1u);
-            case_undo(w, x->list, x->len, &s, log, loglen);
+            run_undo(w, x, &s, log, loglen);
             if (chance(g, 40))
                 x->state = ind_undo(x->list, x->len, x->state, x->log,
-                                    sizeof x->log).state;
+                                    sizeof x->log, x->kept,
+                                    sizeof x->kept).state;
         } else {
             case_lights(w, x->list, x->len, &x->state);
         }
@@ -2923,6 +4071,209 @@ static void random_lights(struct writer *w, struct rng *g, size_t most)
     }
 }
 
+/* A random list of at most `most` bytes whose stations do not end: each is a
+ * loop for ever round random statements, in which it may wait. */
+static void random_endless(struct rng *g, struct press *x, size_t most)
+{
+    static struct sequence p;
+
+    do {
+        uint32_t n = 1 + below(g, IND_STATIONS);
+        uint32_t initial = below(g, 4);
+
+        p.len = 0;
+        for (uint32_t i = 0; i < initial; i++) {
+            uint8_t v = (uint8_t)below(g, IND_VARS);
+            uint32_t k = draw(g) | 0x01010101;
+
+            add(&p, IND_SET, v, 0, 0, k);
+        }
+        for (uint32_t i = 0; i < n; i++) {
+            uint8_t v = random_variable(g);
+
+            add_bare(&p, IND_STATION);
+            add(&p, IND_WHILE, 0, v, 4, v);
+            add_statements(g, &p, 3, 0, p.len + 24);
+            if (chance(g, 40)) {
+                uint32_t k = draw(g) | 0x01010101;
+
+                v = random_variable(g);
+                add(&p, IND_SET, v, v, 2, k);
+            }
+            add_bare(&p, IND_OD);
+        }
+        load(x, &p);
+    } while (x->len > most);
+}
+
+/* A number of steps from 0 to `most`, often next to a multiple of 64. */
+static size_t random_steps(struct rng *g, size_t most)
+{
+    size_t m = below(g, (uint32_t)most + 1);
+
+    if (chance(g, 60)) {
+        m = (m + 32) / 64 * 64 + below(g, 5);
+        m = m > 2 ? m - 2 : 0;
+    }
+    return m > most ? most : m;
+}
+
+/* Some way of a run of about `far` steps: on and back a few times. */
+static void random_way(struct rng *g, struct press *x, size_t far)
+{
+    static uint8_t picks[2 * IND_MAX_STEPS];
+    uint32_t turns = 1 + below(g, 4);
+
+    for (uint32_t i = 0; i < turns; i++) {
+        size_t to = random_steps(g, far);
+
+        if (to > x->state.m) {
+            size_t count = random_picks(g, x, picks, to - x->state.m, 100);
+
+            go(x, picks, count);
+        } else if (i + 1 < turns) {
+            back_to(x, to);
+        }
+    }
+}
+
+/* Junk, and in it mostly the press's kept place j and sometimes those beside
+ * it; a length that is sometimes another. */
+static void lend_random(struct lent *k, struct rng *g, const struct press *x,
+                        size_t j)
+{
+    static const uint16_t other[] = { 0, 184, 11592, 11774, 11775, 11777,
+                                      11960 };
+    size_t length = IND_KEPT_BYTES;
+    uint8_t fill = (uint8_t)draw(g);
+
+    if (chance(g, 8))
+        length = other[below(g, 7)];
+    lend(k, length, fill);
+    for (size_t i = j > 1 ? j - 1 : 1; i <= j + 1; i++)
+        if (chance(g, i == j ? 95 : 30))
+            patch_place(k, x, i);
+}
+
+/* An undo from some m of the press's run: as the run left things, then with
+ * something of the kept buffer, the log or the state changed. */
+static void random_deep_undo(struct writer *w, struct rng *g,
+                             const struct press *x, int changed)
+{
+    static uint8_t log[sizeof x->log];
+    static struct lent kept;
+    struct ind_state s = x->state;
+    size_t q, at, loglen;
+
+    s.m = (uint16_t)random_steps(g, x->state.m);
+    if (place_used(s.m) == 0 && chance(g, 75))
+        s.m = x->state.m;
+    q = place_used(s.m);
+    loglen = 2 * (x->n + s.m);
+    memcpy(log, x->log, sizeof log);
+    if (!changed) {
+        lend_about(&kept, w, x, s.m);
+        case_undo_kept(w, x->list, x->len, &s, log, loglen, &kept);
+        return;
+    }
+    lend_random(&kept, g, x, q);
+    switch (below(g, 8)) {
+    case 0:
+    case 1:                                /* a byte of the place used */
+        at = chance(g, 40) ? below(g, 128) : 128 + below(g, 56);
+        if (q > 0) {
+            uint8_t is = x->kept[place_at(q) + at];
+
+            is = (uint8_t)(chance(g, 50) ? is ^ (1u << below(g, 8)) : draw(g));
+            patch_byte(&kept, q, at, is);
+        }
+        break;
+    case 2: {                              /* another state there */
+        struct ind_state there = random_state(g, x);
+
+        there.m = (uint16_t)(IND_KEPT_EVERY * q);
+        if (chance(g, 80))
+            there.b = s.b;
+        if (q > 0)
+            patch_state(&kept, q, &there);
+        break;
+    }
+    case 3:                                /* another place */
+        at = below(g, IND_KEPT_BYTES);
+        if (at / IND_KEPT_PLACE + 1 != q)
+            patch_byte(&kept, 1, at, (uint8_t)(at % 255));
+        break;
+    case 4:                                /* the log */
+    case 5:
+        at = below(g, (uint32_t)loglen + 1);
+        if (chance(g, 50))                 /* near its end */
+            at = loglen - below(g, (uint32_t)(loglen < 12 ? loglen : 12));
+        log[at] = (uint8_t)(chance(g, 70) ? below(g, 9) : draw(g));
+        break;
+    case 6:
+        loglen -= 1 + below(g, 2);
+        break;
+    default:                               /* B */
+        s.b = (uint8_t)(s.b + 1);
+        break;
+    }
+    case_undo_kept(w, x->list, x->len, &s, log, loglen, &kept);
+}
+
+/* One round about kept states: some way of a run of about `far` steps, undos
+ * from it, and a step, a run and a start over what the buffer holds then; of
+ * lists of at most `most` bytes. */
+static void random_kept(struct writer *w, struct rng *g, size_t most,
+                        size_t far)
+{
+    static struct press x;
+    static struct lent kept;
+    uint8_t resets[IND_STATIONS], picks[2 * 16], pick[2];
+    uint8_t b = chance(g, 85) ? (uint8_t)below(g, 6) : 255;
+    size_t m, count, loglen;
+    uint64_t upto;
+
+    do {
+        random_endless(g, &x, most);
+        for (size_t i = 0; i < IND_STATIONS; i++)
+            resets[i] = (uint8_t)below(g, b + 1u);
+        set_going(&x, b, resets);
+        random_way(g, &x, far);
+    } while (x.state.m < IND_KEPT_EVERY + 1);
+    random_deep_undo(w, g, &x, 0);
+    random_deep_undo(w, g, &x, 1);
+    random_deep_undo(w, g, &x, 1);
+
+    /* a step, mostly to a multiple, and a run across it */
+    m = IND_KEPT_EVERY * (1 + below(g, x.state.m / IND_KEPT_EVERY));
+    back_to(&x, chance(g, 80) ? m - 1 : m);
+    random_pick(g, &x, pick, 85);
+    lend_random(&kept, g, &x, m / IND_KEPT_EVERY);
+    loglen = log_length(&x, 1);
+    if (chance(g, 10))
+        loglen--;
+    case_step_kept(w, x.list, x.len, &x.state, x.log, loglen, &kept, pick[0],
+                   pick[1]);
+    count = below(g, 6);
+    back_to(&x, x.state.m - count);
+    count = 1 + below(g, 16);
+    count = random_picks(g, &x, picks, count, 97);
+    upto = chance(g, 80) ? UINT64_MAX : below(g, 10);
+    lend_random(&kept, g, &x, m / IND_KEPT_EVERY);
+    loglen = log_length(&x, count);
+    if (chance(g, 10))
+        loglen -= below(g, 2 * (uint32_t)count);
+    case_run_kept(w, x.list, x.len, &x.state, x.log, loglen, &kept, picks,
+                  2 * count, upto);
+
+    /* a start anew */
+    if (chance(g, 30)) {
+        lend_random(&kept, g, &x, 1);
+        case_start_kept(w, x.list, x.len, b, resets, x.n, x.log,
+                        2 * x.n + below(g, 3), &kept);
+    }
+}
+
 static void random_traces(struct writer *w, struct rng *g, struct press *x)
 {
     static struct sequence p;
@@ -2950,7 +4301,8 @@ static void random_traces(struct writer *w, struct rng *g, struct press *x)
         if (chance(g, 25) && (x->state.m > 0 || chance(g, 5))) {
             picks[2 * at] = 255;
             picks[2 * at + 1] = 0;
-            u = ind_undo(x->list, x->len, x->state, x->log, sizeof x->log);
+            u = ind_undo(x->list, x->len, x->state, x->log, sizeof x->log,
+                         x->kept, sizeof x->kept);
         }
         if (u.number == IND_FINE)
             x->state = u.state;
@@ -3045,10 +4397,19 @@ static struct rng lights_rng(uint64_t seed)
     return g;
 }
 
+/* The generator of the cases about kept states, likewise. */
+static struct rng kept_rng(uint64_t seed)
+{
+    struct rng g = { seed ^ UINT64_C(0x5EED0F0064004096) };
+
+    return g;
+}
+
 static int write_stream(uint64_t seed)
 {
     static struct writer w;
     struct rng g = { seed }, h = readiness_rng(seed), l = lights_rng(seed);
+    struct rng k = kept_rng(seed);
 
     w.out = stdout;
     bench_check(&w);
@@ -3071,6 +4432,20 @@ static int write_stream(uint64_t seed)
     foreign_waiting(&w);
     for (int i = 0; i < LIGHTS_ROUNDS; i++)
         random_lights(&w, &l, SMALL_LIST);
+    deep_undos(&w);
+    another_way(&w);
+    over_junk(&w);
+    reach(&w);
+    damaged_place(&w);
+    damaged_beside(&w);
+    wrong_kept(&w);
+    far_positions(&w);
+    followed(&w);
+    damaged_log(&w);
+    kept_room(&w);
+    kept_traces(&w);
+    for (int i = 0; i < KEPT_ROUNDS; i++)
+        random_kept(&w, &k, KEPT_LIST, 150);
     if (fflush(stdout) != 0)
         die("cannot write");
     return report(&w) != 0;
@@ -3080,12 +4455,14 @@ static int write_random(uint64_t seed, unsigned long rounds)
 {
     static struct writer w;
     struct rng g = { seed }, h = readiness_rng(seed), l = lights_rng(seed);
+    struct rng k = kept_rng(seed);
 
     w.out = stdout;
     while (rounds-- > 0) {
         random_round(&w, &g);
         random_readiness(&w, &h, SIZE_MAX);
         random_lights(&w, &l, SIZE_MAX);
+        random_kept(&w, &k, SIZE_MAX, chance(&k, 4) ? IND_MAX_STEPS : 400);
     }
     if (fflush(stdout) != 0)
         die("cannot write");

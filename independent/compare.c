@@ -2,7 +2,7 @@
  * Compares the panel's library with the independent program, call by call: reads a stream of cases (see cases.c) and makes
  * each call with both, on buffers of their own; whole answers and whole buffers must be the same. On a difference it cuts
  * the case down, prints it and ends with status 1. Trace cases are passed by: a trace is a program and no call of the
- * library, and the conformance program has them.
+ * library, and the conformance program has them. A kept buffer's field says how its bytes are made; here it is the bytes.
  *
  *   compare FILE
  */
@@ -12,7 +12,7 @@
 #include <stdlib.h>
 #include <string.h>
 
-enum { FIELDS = 5, FIELD_BYTES = 65536 };
+enum { FIELDS = 6, FIELD_BYTES = 65536 };
 
 /* A case: the call and its fields, in the order that cases.c gives. */
 struct field {
@@ -31,7 +31,10 @@ static struct field ours[FIELDS], theirs[FIELDS];
 /* The calls are numbered from 1; the trace is no call of the library. */
 enum { TRACE = 8, CALLS = 9 };
 
-static const int field_counts[] = {0, 1, 2, 4, 4, 5, 3, 2, 3, 3};
+static const int field_counts[] = {0, 1, 2, 5, 5, 6, 4, 2, 3, 3};
+
+/* Which field of a call is its kept buffer; 0 where it is lent none. */
+static const int kept_fields[] = {0, 0, 0, 4, 3, 3, 3, 0, 0, 0};
 
 static uint32_t word(const uint8_t *p)
 {
@@ -41,6 +44,24 @@ static uint32_t word(const uint8_t *p)
 static uint16_t half(const uint8_t *p)
 {
     return (uint16_t)(p[0] | p[1] << 8);
+}
+
+/* Puts the bytes of a kept buffer in the place of the field that makes them. */
+static void make_kept(struct field *f)
+{
+    static struct field made;
+    const uint8_t fill = f->len > 2 ? f->bytes[2] : 0;
+    made.len = f->len > 1 ? half(f->bytes) : 0;
+    for (size_t i = 0; i < made.len; i++)
+        made.bytes[i] = (uint8_t)(fill * (i + 1));
+    for (size_t at = 3; at + 4 <= f->len;) {
+        const size_t offset = half(f->bytes + at), count = half(f->bytes + at + 2);
+        at += 4;
+        for (size_t i = 0; i < count && at + i < f->len && offset + i < made.len; i++)
+            made.bytes[offset + i] = f->bytes[at + i];
+        at += count;
+    }
+    *f = made;
 }
 
 /* The state that 164 bytes spell, as each library has it. */
@@ -90,38 +111,42 @@ static int agree(const struct call *c)
         break;
     }
     case 3: {
-        press_outcome r = press_start(a[0].bytes, a[0].len, a[1].bytes[0], a[2].bytes, a[2].len, a[3].bytes, a[3].len);
-        struct ind_state_answer t =
-            ind_start(b[0].bytes, b[0].len, b[1].bytes[0], b[2].bytes, b[2].len, b[3].bytes, b[3].len);
+        press_outcome r = press_start(a[0].bytes, a[0].len, a[1].bytes[0], a[2].bytes, a[2].len, a[3].bytes, a[3].len,
+                                      a[4].bytes, a[4].len);
+        struct ind_state_answer t = ind_start(b[0].bytes, b[0].len, b[1].bytes[0], b[2].bytes, b[2].len, b[3].bytes,
+                                              b[3].len, b[4].bytes, b[4].len);
         same = r.number == t.number && same_state(&r.state, &t.state);
         break;
     }
     case 4: {
-        static struct field log;
+        static struct field log, kept;
         press_state lent = our_state(a[1].bytes);
         log = a[2];
-        press_outcome r = press_step(our_state(a[1].bytes), a[0].bytes, a[0].len, a[2].bytes, a[2].len, a[3].bytes[0],
-                                     a[3].bytes[1]);
-        uint8_t number =
-            press_advance(&lent, a[0].bytes, a[0].len, log.bytes, log.len, a[3].bytes[0], a[3].bytes[1]);
+        kept = a[3];
+        press_outcome r = press_step(our_state(a[1].bytes), a[0].bytes, a[0].len, a[2].bytes, a[2].len, a[3].bytes,
+                                     a[3].len, a[4].bytes[0], a[4].bytes[1]);
+        uint8_t number = press_advance(&lent, a[0].bytes, a[0].len, log.bytes, log.len, kept.bytes, kept.len,
+                                       a[4].bytes[0], a[4].bytes[1]);
         struct ind_state_answer t = ind_step(b[0].bytes, b[0].len, their_state(b[1].bytes), b[2].bytes, b[2].len,
-                                             b[3].bytes[0], b[3].bytes[1]);
+                                             b[3].bytes, b[3].len, b[4].bytes[0], b[4].bytes[1]);
         same = r.number == t.number && same_state(&r.state, &t.state) && number == t.number && same_state(&lent, &t.state)
-            && memcmp(log.bytes, b[2].bytes, log.len) == 0;
+            && memcmp(log.bytes, b[2].bytes, log.len) == 0 && memcmp(kept.bytes, b[3].bytes, kept.len) == 0;
         break;
     }
     case 5: {
-        size_t most = word(a[4].bytes) | (size_t)word(a[4].bytes + 4) << 32;
+        size_t most = word(a[5].bytes) | (size_t)word(a[5].bytes + 4) << 32;
         press_ran r = press_run(our_state(a[1].bytes), a[0].bytes, a[0].len, a[2].bytes, a[2].len, a[3].bytes, a[3].len,
-                                most);
+                                a[4].bytes, a[4].len, most);
         struct ind_run_answer t = ind_run(b[0].bytes, b[0].len, their_state(b[1].bytes), b[2].bytes, b[2].len,
-                                          b[3].bytes, b[3].len, most);
+                                          b[3].bytes, b[3].len, b[4].bytes, b[4].len, most);
         same = r.number == t.number && same_state(&r.state, &t.state) && r.steps == t.steps;
         break;
     }
     case 6: {
-        press_outcome r = press_undo(our_state(a[1].bytes), a[0].bytes, a[0].len, a[2].bytes, a[2].len);
-        struct ind_state_answer t = ind_undo(b[0].bytes, b[0].len, their_state(b[1].bytes), b[2].bytes, b[2].len);
+        press_outcome r = press_undo(our_state(a[1].bytes), a[0].bytes, a[0].len, a[2].bytes, a[2].len, a[3].bytes,
+                                     a[3].len);
+        struct ind_state_answer t = ind_undo(b[0].bytes, b[0].len, their_state(b[1].bytes), b[2].bytes, b[2].len,
+                                             b[3].bytes, b[3].len);
         same = r.number == t.number && same_state(&r.state, &t.state);
         break;
     }
@@ -150,8 +175,8 @@ static int agree(const struct call *c)
 /* Bytes that a field must keep: a state, B, a pick, a most-steps number and a station have a fixed length. */
 static int fixed(const struct call *c, int i)
 {
-    return (c->number >= 4 && i == 1) || (c->number == 3 && i == 1) || (c->number == 4 && i == 3)
-        || (c->number == 5 && i == 4) || (c->number == 9 && i == 2);
+    return (c->number >= 3 && i == 1) || (c->number == 4 && i == 4) || (c->number == 5 && i == 5)
+        || (c->number == 9 && i == 2);
 }
 
 /* Cuts bytes off the ends of the fields and sets bytes to zero while the two still differ. */
@@ -223,6 +248,8 @@ int main(int argc, char **argv)
             passed_by++;
             continue;
         }
+        if (kept_fields[c.number] != 0)
+            make_kept(&c.fields[kept_fields[c.number]]);
         if (!agree(&c)) {
             cut(&c);
             show(&c);

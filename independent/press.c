@@ -6,7 +6,7 @@
 #include "press.h"
 
 /* ------------------------------------------------------------------ */
-/* Reading bytes                                                      */
+/* Reading and writing bytes                                          */
 /* ------------------------------------------------------------------ */
 
 /* The number in two bytes, "low byte first". */
@@ -20,6 +20,19 @@ static uint32_t low4(const uint8_t *p)
 {
     return (uint32_t)p[0] | (uint32_t)p[1] << 8 | (uint32_t)p[2] << 16
          | (uint32_t)p[3] << 24;
+}
+
+/* The same two, written. */
+static void put2(uint8_t *p, uint16_t value)
+{
+    p[0] = (uint8_t)(value & 255);
+    p[1] = (uint8_t)(value >> 8);
+}
+
+static void put4(uint8_t *p, uint32_t value)
+{
+    put2(p, (uint16_t)(value & 65535));
+    put2(p + 2, (uint16_t)(value >> 16));
 }
 
 /* "kind, a, b, op, then k as four bytes": the fields of a record, in a
@@ -366,12 +379,6 @@ static void find_arrivals(struct plan *plan, const uint8_t *file, size_t count)
             break;
         }
     }
-}
-
-static void put2(uint8_t *p, uint16_t value)
-{
-    p[0] = (uint8_t)(value & 255);
-    p[1] = (uint8_t)(value >> 8);
 }
 
 /* Writes the list that the plan describes; buf has room for it. */
@@ -801,10 +808,82 @@ static uint8_t advance(const struct list *list, struct ind_state *state,
     return IND_FINE;
 }
 
-/* Tests 9, 6, 10, 16 and 11 to 13 of a step, the step and its log record.
- * Answers the refusal or 0; refused, the state and the log stay. */
+/* ------------------------------------------------------------------ */
+/* Kept states                                                        */
+/* ------------------------------------------------------------------ */
+
+/* Where the parts of a kept place begin. */
+enum kept_part {
+    KEPT_VARS = 0,            /* "variable v, four bytes from 4v on" */
+    KEPT_POSITIONS = 128,     /* "two bytes from 128 + 2j on" */
+    KEPT_PRIORITIES = 144,    /* "two bytes from 144 + 2j on" */
+    KEPT_COUNTS = 160,        /* "160 to 175", zero */
+    KEPT_N = 176,
+    KEPT_B = 177,
+    KEPT_M = 178,             /* "178, 179" */
+    KEPT_REST = 180           /* "180" and "181 to 183", zero */
+};
+
+/* "A priority is written as the number 32,768 higher, so that it is never
+ * negative". */
+enum { KEPT_HIGHER = 32768 };
+
+/* "Kept place j, from 1 to 64, ... begins at byte 184(j-1)." */
+static size_t kept_place(size_t j)
+{
+    return IND_KEPT_PLACE * (j - 1);
+}
+
+/* Writes the state to the kept place at p, "all 184 bytes". */
+static void keep(uint8_t *p, const struct ind_state *state)
+{
+    for (size_t v = 0; v < IND_VARS; v++)
+        put4(p + KEPT_VARS + 4 * v, state->var[v]);
+    for (size_t j = 0; j < IND_STATIONS; j++) {
+        put2(p + KEPT_POSITIONS + 2 * j, state->pos[j]);
+        put2(p + KEPT_PRIORITIES + 2 * j,
+             (uint16_t)(state->pri[j] + KEPT_HIGHER));
+    }
+    for (size_t i = KEPT_COUNTS; i < KEPT_N; i++)
+        p[i] = 0;
+    p[KEPT_N] = state->n;
+    p[KEPT_B] = state->b;
+    put2(p + KEPT_M, state->m);
+    for (size_t i = KEPT_REST; i < IND_KEPT_PLACE; i++)
+        p[i] = 0;
+}
+
+/* Whether the bytes of the kept place at p are some state's, sound or not;
+ * *state is then that state. */
+static int is_kept(const uint8_t *p, struct ind_state *state)
+{
+    /* "One in which any of these is not zero is no kept state." */
+    if (!zero_bytes(p, KEPT_COUNTS, KEPT_N)
+        || !zero_bytes(p, KEPT_REST, IND_KEPT_PLACE))
+        return 0;
+    for (size_t v = 0; v < IND_VARS; v++)
+        state->var[v] = low4(p + KEPT_VARS + 4 * v);
+    for (size_t j = 0; j < IND_STATIONS; j++) {
+        state->pos[j] = low2(p + KEPT_POSITIONS + 2 * j);
+        state->pri[j] = (int16_t)(low2(p + KEPT_PRIORITIES + 2 * j)
+                                  - KEPT_HIGHER);
+    }
+    state->n = p[KEPT_N];
+    state->b = p[KEPT_B];
+    state->m = low2(p + KEPT_M);
+    return 1;
+}
+
+/* ------------------------------------------------------------------ */
+/* Steps with their log, and the start                                */
+/* ------------------------------------------------------------------ */
+
+/* Tests 9, 6, 10, 16 and 11 to 13 of a step, the step, its log record and, at
+ * a multiple of 64, its kept place.  Answers the refusal or 0; refused, the
+ * state, the log and the kept buffer stay. */
 static uint8_t logged_step(const struct list *list, struct ind_state *state,
                            uint8_t *log, size_t loglen,
+                           uint8_t *kept, size_t keptlen,
                            uint8_t station, uint8_t reset)
 {
     size_t at = 2 * (list->n + state->m);  /* "one per step at byte 2(n+m)" */
@@ -814,12 +893,17 @@ static uint8_t logged_step(const struct list *list, struct ind_state *state,
         return IND_FULL;
     if (loglen < at + 2)                   /* "log under 2(n+m+1)" */
         return IND_ROOM;
+    if (keptlen < IND_KEPT_BYTES)          /* "a buffer that can't hold 64 */
+        return IND_ROOM;                   /* kept states" */
     refusal = advance(list, state, station, reset);
-    if (refusal == IND_FINE) {
-        log[at] = station;
-        log[at + 1] = reset;
-    }
-    return refusal;
+    if (refusal != IND_FINE)
+        return refusal;
+    log[at] = station;
+    log[at + 1] = reset;
+    /* "Every step that reaches a multiple of 64 writes its place anew" */
+    if (state->m % IND_KEPT_EVERY == 0)
+        keep(kept + kept_place(state->m / IND_KEPT_EVERY), state);
+    return IND_FINE;
 }
 
 /* The state after a start: "It runs the initial part and sets priorities to
@@ -845,15 +929,18 @@ static struct ind_state begin(const struct list *list, uint8_t b,
 /* ------------------------------------------------------------------ */
 
 /* "START takes the list, B, exactly n reset bytes and a log buffer."  Answers
- * the state at the start and writes the n start records; refused (7, 13, 6),
- * all zeros, and the log stays. */
+ * the state at the start and writes the n start records; refused (7, 13, 6 by
+ * the log, 6 by the kept buffer), all zeros, and the log stays.  Of the kept
+ * buffer only the length is looked at. */
 struct ind_state_answer ind_start(const uint8_t *bytes, size_t len, uint8_t b,
                                   const uint8_t *resets, size_t nresets,
-                                  uint8_t *log, size_t loglen)
+                                  uint8_t *log, size_t loglen,
+                                  uint8_t *kept, size_t keptlen)
 {
     struct ind_state_answer answer = { 0 };
     struct list list;
 
+    (void)kept;                           /* "A START does not clear it" */
     if (!sound_list(&list, bytes, len)) {
         answer.number = IND_LIST;
         return answer;
@@ -869,6 +956,10 @@ struct ind_state_answer ind_start(const uint8_t *bytes, size_t len, uint8_t b,
         answer.number = IND_ROOM;
         return answer;
     }
+    if (keptlen < IND_KEPT_BYTES) {       /* "after the log's 6" */
+        answer.number = IND_ROOM;
+        return answer;
+    }
     answer.state = begin(&list, b, resets);
     for (size_t i = 0; i < list.n; i++) {
         log[2 * i] = (uint8_t)i;
@@ -877,12 +968,14 @@ struct ind_state_answer ind_start(const uint8_t *bytes, size_t len, uint8_t b,
     return answer;
 }
 
-/* Answers the state after the step and writes its log record.  Refused (7, 8,
- * 9, 6, 10, 16, 11, 12, 13, in this order), the state given, and the log
- * stays. */
+/* Answers the state after the step and writes its log record and, where it
+ * reaches a multiple of 64, its kept place.  Refused (7, 8, 9, 6 by the log, 6
+ * by the kept buffer, 10, 16, 11, 12, 13, in this order), the state given, and
+ * the log and the kept buffer stay. */
 struct ind_state_answer ind_step(const uint8_t *bytes, size_t len,
                                  struct ind_state state,
                                  uint8_t *log, size_t loglen,
+                                 uint8_t *kept, size_t keptlen,
                                  uint8_t station, uint8_t reset)
 {
     struct ind_state_answer answer = { IND_FINE, state };
@@ -893,8 +986,8 @@ struct ind_state_answer ind_step(const uint8_t *bytes, size_t len,
     else if (!sound_state(&list, &state))
         answer.number = IND_STATE;
     else
-        answer.number = logged_step(&list, &answer.state, log, loglen,
-                                    station, reset);
+        answer.number = logged_step(&list, &answer.state, log, loglen, kept,
+                                    keptlen, station, reset);
     return answer;
 }
 
@@ -902,10 +995,12 @@ struct ind_state_answer ind_step(const uint8_t *bytes, size_t len,
  * answers the state, the steps taken and the refusal or 0."  "Odd length is
  * LENGTH, tested first; then LIST and STATE, tested once even when no step is
  * allowed."  "A step refused within RUN writes nothing; the steps before it
- * stand." */
+ * stand."  Its steps judge the kept buffer: where none is tried, nobody
+ * does. */
 struct ind_run_answer ind_run(const uint8_t *bytes, size_t len,
                               struct ind_state state,
                               uint8_t *log, size_t loglen,
+                              uint8_t *kept, size_t keptlen,
                               const uint8_t *picks, size_t plen, size_t most)
 {
     struct ind_run_answer answer = { IND_FINE, state, 0 };
@@ -926,8 +1021,8 @@ struct ind_run_answer ind_run(const uint8_t *bytes, size_t len,
     while (answer.steps < most && answer.steps < plen / 2) {
         const uint8_t *pick = picks + 2 * answer.steps;
 
-        answer.number = logged_step(&list, &answer.state, log, loglen,
-                                    pick[0], pick[1]);
+        answer.number = logged_step(&list, &answer.state, log, loglen, kept,
+                                    keptlen, pick[0], pick[1]);
         if (answer.number != IND_FINE)
             break;
         answer.steps++;
@@ -935,17 +1030,35 @@ struct ind_run_answer ind_run(const uint8_t *bytes, size_t len,
     return answer;
 }
 
-/* "UNDO answers the state reached by replaying the first n+m-1 records;
- * unless refused it depends on list, log, B and m only; it leaves the log."
- * Refused (7, 8, 14, 15), the state given. */
+/* The state that an undo goes from where it goes from the start records.
+ * Answers 0, or 15 for "a start record out of place or above B". */
+static uint8_t from_start(const struct list *list, uint8_t b,
+                          const uint8_t *log, struct ind_state *state)
+{
+    uint8_t resets[IND_STATIONS];
+
+    for (size_t i = 0; i < list->n; i++) {
+        if (log[2 * i] != i || log[2 * i + 1] > b)
+            return IND_LOG;
+        resets[i] = log[2 * i + 1];
+    }
+    *state = begin(list, b, resets);
+    return IND_FINE;
+}
+
+/* "UNDO answers the state reached by replaying the first n+m-1 records", and
+ * "from the nearest" kept state "at or below the target, or below 64 from the
+ * start records".  It leaves the log and the kept buffer.  Refused (7, 8, 14,
+ * 6, 8 by the kept state used, 15, in this order), the state given. */
 struct ind_state_answer ind_undo(const uint8_t *bytes, size_t len,
                                  struct ind_state state,
-                                 const uint8_t *log, size_t loglen)
+                                 const uint8_t *log, size_t loglen,
+                                 const uint8_t *kept, size_t keptlen)
 {
     struct ind_state_answer answer = { IND_FINE, state };
     struct ind_state replayed;
-    uint8_t resets[IND_STATIONS];
     struct list list;
+    size_t q;
 
     if (!sound_list(&list, bytes, len)) {
         answer.number = IND_LIST;
@@ -959,21 +1072,35 @@ struct ind_state_answer ind_undo(const uint8_t *bytes, size_t len,
         answer.number = IND_EMPTY;
         return answer;
     }
-    /* "log under 2(n+m) bytes, a start record out of place or above B, or a
-     * replay refused" */
+    if (keptlen < IND_KEPT_BYTES) {       /* "in undo after 14" */
+        answer.number = IND_ROOM;
+        return answer;
+    }
+    /* "With q = (m-1)/64, rounded down: where q is 0 it goes from the log's
+     * start records, and else from kept place q" */
+    q = (state.m - 1u) / IND_KEPT_EVERY;
+    /* "8 in undo, before 15, for the kept state used if it is not sound or its
+     * m or B is another than its place and the state given say" */
+    if (q > 0 && (!is_kept(kept + kept_place(q), &replayed)
+                  || !sound_state(&list, &replayed)
+                  || replayed.m != IND_KEPT_EVERY * q
+                  || replayed.b != state.b)) {
+        answer.number = IND_STATE;
+        return answer;
+    }
+    /* "15 then judges the log's length and the records replayed" */
     if (loglen < 2 * (list.n + state.m)) {
         answer.number = IND_LOG;
         return answer;
     }
-    for (size_t i = 0; i < list.n; i++) {
-        if (log[2 * i] != i || log[2 * i + 1] > state.b) {
-            answer.number = IND_LOG;
+    if (q == 0) {
+        answer.number = from_start(&list, state.b, log, &replayed);
+        if (answer.number != IND_FINE)
             return answer;
-        }
-        resets[i] = log[2 * i + 1];
     }
-    replayed = begin(&list, state.b, resets);
-    for (size_t i = list.n; i < list.n + state.m - 1; i++) {
+    /* "replays the log's records n+64q to n+m-2, at most 63" */
+    for (size_t i = list.n + IND_KEPT_EVERY * q; i < list.n + state.m - 1;
+         i++) {
         if (advance(&list, &replayed, log[2 * i], log[2 * i + 1]) != IND_FINE) {
             answer.number = IND_LOG;
             return answer;
@@ -1163,7 +1290,7 @@ static size_t put_end(struct text *text, uint8_t number)
 /* Answers the length of the text that the trace program prints for the three
  * files' bytes, and writes as much of it as fits.  "It prints a line for the
  * start and after each call taken"; "Its own list and log buffers are never
- * short." */
+ * short", nor is its kept buffer. */
 size_t ind_trace(const uint8_t *program, size_t plen,
                  const uint8_t *start, size_t slen,
                  const uint8_t *picks, size_t klen,
@@ -1171,6 +1298,7 @@ size_t ind_trace(const uint8_t *program, size_t plen,
 {
     uint8_t list[IND_ITEM * IND_MAX_ITEMS];
     uint8_t log[2 * (IND_STATIONS + IND_MAX_STEPS)] = { 0 };
+    uint8_t kept[IND_KEPT_BYTES] = { 0 };
     struct text text = { out, outlen, 0 };
     struct ind_build_answer built;
     struct ind_state_answer taken;
@@ -1184,7 +1312,7 @@ size_t ind_trace(const uint8_t *program, size_t plen,
     if (slen == 0)
         return put_end(&text, IND_RESET);
     taken = ind_start(list, len, start[0], start + 1, slen - 1,
-                      log, sizeof log);
+                      log, sizeof log, kept, sizeof kept);
     if (taken.number != IND_FINE)
         return put_end(&text, taken.number);
     put_line(&text, list, len, &taken.state);
@@ -1197,10 +1325,10 @@ size_t ind_trace(const uint8_t *program, size_t plen,
     for (size_t i = 0; i < klen; i += 2) {
         if (picks[i] == 255 && picks[i + 1] == 0)  /* "Pick (255,0) means */
             taken = ind_undo(list, len, taken.state,  /* undo." */
-                             log, sizeof log);
+                             log, sizeof log, kept, sizeof kept);
         else
             taken = ind_step(list, len, taken.state, log, sizeof log,
-                             picks[i], picks[i + 1]);
+                             kept, sizeof kept, picks[i], picks[i + 1]);
         if (taken.number != IND_FINE)
             return put_end(&text, taken.number);
         put_line(&text, list, len, &taken.state);

@@ -1,8 +1,9 @@
 /*
  * press.h - the written sequence, the built-in list and its stepping.
  *
- * Every function is total: any bytes, any list, any state, any log and any
- * lengths have an answer.  A slice of length 0 may have a null pointer.
+ * Every function is total: any bytes, any list, any state, any log, any kept
+ * buffer and any lengths have an answer.  A slice of length 0 may have a null
+ * pointer.
  * Nothing is kept between calls.  The slices handed to one call must not
  * overlap each other.
  */
@@ -59,6 +60,10 @@ enum ind_limit {
     IND_MAX_ITEMS = 1032,     /* "at most 1,032 records" */
     IND_MAX_DEPTH = 16,       /* "at most 16 deep" */
     IND_MAX_STEPS = 4096,     /* "m is at most 4,096" */
+    IND_KEPT_EVERY = 64,      /* "after steps 64, 128 and so on to 4,096" */
+    IND_KEPT_PLACES = 64,     /* "64 kept states" */
+    IND_KEPT_PLACE = 184,     /* the bytes of a kept place */
+    IND_KEPT_BYTES = 11776,   /* the bytes of all of them */
     IND_INITIAL = 255,        /* the station byte of the initial part */
     IND_MAX_PICKS = 8192      /* bytes of a trace's picks file */
 };
@@ -113,6 +118,11 @@ struct ind_lights_answer {
     uint8_t rows[2][IND_VARS];   /* [0] reads, [1] writes */
 };
 
+/* Beside the log, start, step, run and undo are lent the kept buffer.  "Kept
+ * place j, from 1 to 64, is for the state with m = 64j and begins at byte
+ * 184(j-1)."  Of a longer buffer "the bytes past these are never read or
+ * written". */
+
 struct ind_check_answer ind_check(const uint8_t *file, size_t len);
 
 struct ind_build_answer ind_build(const uint8_t *file, size_t len,
@@ -120,21 +130,25 @@ struct ind_build_answer ind_build(const uint8_t *file, size_t len,
 
 struct ind_state_answer ind_start(const uint8_t *list, size_t len, uint8_t b,
                                   const uint8_t *resets, size_t nresets,
-                                  uint8_t *log, size_t loglen);
+                                  uint8_t *log, size_t loglen,
+                                  uint8_t *kept, size_t keptlen);
 
 struct ind_state_answer ind_step(const uint8_t *list, size_t len,
                                  struct ind_state state,
                                  uint8_t *log, size_t loglen,
+                                 uint8_t *kept, size_t keptlen,
                                  uint8_t station, uint8_t reset);
 
 struct ind_run_answer ind_run(const uint8_t *list, size_t len,
                               struct ind_state state,
                               uint8_t *log, size_t loglen,
+                              uint8_t *kept, size_t keptlen,
                               const uint8_t *picks, size_t plen, size_t most);
 
 struct ind_state_answer ind_undo(const uint8_t *list, size_t len,
                                  struct ind_state state,
-                                 const uint8_t *log, size_t loglen);
+                                 const uint8_t *log, size_t loglen,
+                                 const uint8_t *kept, size_t keptlen);
 
 struct ind_readiness_answer ind_readiness(const uint8_t *list, size_t len,
                                           struct ind_state state,

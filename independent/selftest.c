@@ -11,6 +11,9 @@
 
 static unsigned long checks, failures;
 
+/* The kept buffer of every test that has none of its own; junk at first. */
+static uint8_t kept[IND_KEPT_BYTES];
+
 #define CHECK(what) check((what), #what, __LINE__)
 
 static void check(int good, const char *what, int line)
@@ -255,11 +258,11 @@ static void test_p9_p10(void)
     add(&p, IND_SET, 2, 2, 5, 1);
     b = ind_build(p.bytes, p.len, list, sizeof list);
     CHECK(b.number == IND_FINE && b.count == 5);
-    s = ind_start(list, 80, 0, resets, 1, log, sizeof log);
+    s = ind_start(list, 80, 0, resets, 1, log, sizeof log, kept, sizeof kept);
     CHECK(s.number == IND_FINE && s.state.var[0] == 4294967295u);
-    s = ind_step(list, 80, s.state, log, sizeof log, 0, 0);
+    s = ind_step(list, 80, s.state, log, sizeof log, kept, sizeof kept, 0, 0);
     CHECK(s.number == IND_FINE && s.state.var[1] == 4294967295u);
-    s = ind_step(list, 80, s.state, log, sizeof log, 0, 0);
+    s = ind_step(list, 80, s.state, log, sizeof log, kept, sizeof kept, 0, 0);
     CHECK(s.number == IND_FINE && s.state.var[2] == 1);
 
     /* P10 two stations, each WHILE v0 = v0 around SKIP, B = 1, resets 0 and
@@ -274,37 +277,42 @@ static void test_p9_p10(void)
     b = ind_build(p.bytes, p.len, list, sizeof list);
     CHECK(b.number == IND_FINE && b.count == 8);
     resets[1] = 1;
-    s = ind_start(list, 128, 1, resets, 2, log, sizeof log);
+    s = ind_start(list, 128, 1, resets, 2, log, sizeof log, kept, sizeof kept);
     CHECK(s.number == IND_FINE && s.state.pri[0] == 0 && s.state.pri[1] == 1);
     CHECK(log[0] == 0 && log[1] == 0 && log[2] == 1 && log[3] == 1);
-    r = ind_run(list, 128, s.state, log, sizeof log, picks, 4, 100);
+    r = ind_run(list, 128, s.state, log, sizeof log, kept, sizeof kept, picks,
+                4, 100);
     CHECK(r.number == IND_FINE && r.steps == 2);
     CHECK(r.state.pri[0] == 0 && r.state.pri[1] == -1);
     memcpy(before, log, sizeof log);
-    s = ind_step(list, 128, r.state, log, sizeof log, 0, 0);
+    s = ind_step(list, 128, r.state, log, sizeof log, kept, sizeof kept, 0, 0);
     CHECK(s.number == IND_TURN && same_state(&s.state, &r.state));
     CHECK(memcmp(before, log, sizeof log) == 0);
-    s = ind_step(list, 128, r.state, log, sizeof log, 1, 1);
+    s = ind_step(list, 128, r.state, log, sizeof log, kept, sizeof kept, 1, 1);
     CHECK(s.number == IND_FINE);
     CHECK(s.state.pri[0] == -1 && s.state.pri[1] == 1);
     CHECK(log[8] == 1 && log[9] == 1);
 
     /* the same in one run, by the picks' end, by the number, by a refusal */
-    s = ind_start(list, 128, 1, resets, 2, log, sizeof log);
-    r = ind_run(list, 128, s.state, log, sizeof log, picks, 6, 3);
+    s = ind_start(list, 128, 1, resets, 2, log, sizeof log, kept, sizeof kept);
+    r = ind_run(list, 128, s.state, log, sizeof log, kept, sizeof kept, picks,
+                6, 3);
     CHECK(r.number == IND_FINE && r.steps == 3 && r.state.m == 3);
-    r = ind_run(list, 128, s.state, log, sizeof log, picks, 6, 1);
+    r = ind_run(list, 128, s.state, log, sizeof log, kept, sizeof kept, picks,
+                6, 1);
     CHECK(r.number == IND_FINE && r.steps == 1 && r.state.m == 1);
-    r = ind_run(list, 128, s.state, log, sizeof log, picks, 6, 0);
+    r = ind_run(list, 128, s.state, log, sizeof log, kept, sizeof kept, picks,
+                6, 0);
     CHECK(r.number == IND_FINE && r.steps == 0 && same_state(&r.state, &s.state));
-    r = ind_run(list, 128, s.state, log, 8, picks, 6, SIZE_MAX);
+    r = ind_run(list, 128, s.state, log, 8, kept, sizeof kept, picks, 6,
+                SIZE_MAX);
     CHECK(r.number == IND_ROOM && r.steps == 2 && r.state.m == 2);
-    r = ind_run(list, 128, s.state, log, 8, picks, 5, 0);
+    r = ind_run(list, 128, s.state, log, 8, kept, sizeof kept, picks, 5, 0);
     CHECK(r.number == IND_LENGTH && r.steps == 0);
-    r = ind_run(list, 127, s.state, log, 8, picks, 6, 0);
+    r = ind_run(list, 127, s.state, log, 8, kept, sizeof kept, picks, 6, 0);
     CHECK(r.number == IND_LIST && r.steps == 0);
     s.state.n = 1;
-    r = ind_run(list, 128, s.state, log, 8, picks, 6, 0);
+    r = ind_run(list, 128, s.state, log, 8, kept, sizeof kept, picks, 6, 0);
     CHECK(r.number == IND_STATE && r.steps == 0);
 }
 
@@ -338,11 +346,13 @@ static void test_dryer(void)
         };
         CHECK(memcmp(list, built, sizeof built) == 0);
     }
-    first = ind_start(list, 112, 0, resets, 2, log, sizeof log);
+    first = ind_start(list, 112, 0, resets, 2, log, sizeof log, kept,
+                      sizeof kept);
     CHECK(first.number == IND_FINE);
 
     /* "picking 1 first is NOT READY" */
-    s = ind_step(list, 112, first.state, log, sizeof log, 1, 0);
+    s = ind_step(list, 112, first.state, log, sizeof log, kept, sizeof kept, 1,
+                 0);
     CHECK(s.number == IND_NOT_READY && same_state(&s.state, &first.state));
 
     /* "In "Dryer" the start then has write mask 1 for variable 0, and read
@@ -353,27 +363,28 @@ static void test_dryer(void)
     CHECK(l.ready == 1 && l.in_turn == 1 && l.waiting == 2 && l.ended == 0);
 
     /* P12 picks 0, 1, then two undos give back the start state. */
-    s = ind_step(list, 112, first.state, log, sizeof log, 0, 0);
+    s = ind_step(list, 112, first.state, log, sizeof log, kept, sizeof kept, 0,
+                 0);
     CHECK(s.number == IND_FINE && s.state.var[0] == 1);
     l = ind_lights(list, 112, s.state);  /* station 1 is ready, 0 has ended */
     CHECK(l.number == IND_FINE && l.rows[0][0] == 2 && l.rows[1][0] == 2);
     CHECK(lit(&l, 0, 0, 0) && lit(&l, 1, 1, 1));
     CHECK(l.ready == 2 && l.in_turn == 2 && l.waiting == 0 && l.ended == 1);
-    t = ind_step(list, 112, s.state, log, sizeof log, 1, 0);
+    t = ind_step(list, 112, s.state, log, sizeof log, kept, sizeof kept, 1, 0);
     CHECK(t.number == IND_FINE && t.state.var[0] == 2 && t.state.m == 2);
     l = ind_lights(list, 112, t.state);
     CHECK(l.ready == 0 && l.in_turn == 0 && l.waiting == 0 && l.ended == 3);
     CHECK(lit(&l, 0, 0, 0) && lit(&l, 1, 0, 0));
-    t = ind_undo(list, 112, t.state, log, sizeof log);
+    t = ind_undo(list, 112, t.state, log, sizeof log, kept, sizeof kept);
     CHECK(t.number == IND_FINE && same_state(&t.state, &s.state));
     l = ind_lights(list, 112, t.state);
     CHECK(l.number == IND_FINE && l.rows[0][0] == 2 && l.rows[1][0] == 2);
-    t = ind_undo(list, 112, t.state, log, sizeof log);
+    t = ind_undo(list, 112, t.state, log, sizeof log, kept, sizeof kept);
     CHECK(t.number == IND_FINE && same_state(&t.state, &first.state));
     l = ind_lights(list, 112, t.state);  /* station 1 waits again */
     CHECK(l.number == IND_FINE && l.rows[0][0] == 2 && l.rows[1][0] == 1);
     CHECK(l.ready == 1 && l.in_turn == 1 && l.waiting == 2 && l.ended == 0);
-    t = ind_undo(list, 112, t.state, log, sizeof log);
+    t = ind_undo(list, 112, t.state, log, sizeof log, kept, sizeof kept);
     CHECK(t.number == IND_EMPTY && same_state(&t.state, &first.state));
 
     /* The trace. */
@@ -456,15 +467,17 @@ static void test_ended(void)
     purge(&p);
     CHECK(ind_build(p.bytes, p.len, list, len).count == 11);
     memset(log, 0xEE, sizeof log);
-    first = ind_start(list, len, 0, resets, 3, log, sizeof log);
-    s = ind_step(list, len, first.state, log, sizeof log, 0, 0);
+    first = ind_start(list, len, 0, resets, 3, log, sizeof log, kept,
+                      sizeof kept);
+    s = ind_step(list, len, first.state, log, sizeof log, kept, sizeof kept, 0,
+                 0);
     CHECK(s.number == IND_FINE && s.state.pos[0] == 4);
 
     /* ended is 16, waiting is 11 */
     memcpy(before, log, sizeof log);
-    t = ind_step(list, len, s.state, log, sizeof log, 0, 0);
+    t = ind_step(list, len, s.state, log, sizeof log, kept, sizeof kept, 0, 0);
     CHECK(t.number == IND_ENDED && same_state(&t.state, &s.state));
-    t = ind_step(list, len, s.state, log, sizeof log, 1, 0);
+    t = ind_step(list, len, s.state, log, sizeof log, kept, sizeof kept, 1, 0);
     CHECK(t.number == IND_NOT_READY && same_state(&t.state, &s.state));
     CHECK(memcmp(before, log, sizeof log) == 0);
 
@@ -479,49 +492,64 @@ static void test_ended(void)
         u = s.state;
         u.b = 9;
         u.pri[i] = 9;
-        CHECK(ind_step(list, len, u, log, 10, i, 10).number == number);
-        CHECK(ind_step(list, len, u, log, 9, i, 10).number == IND_ROOM);
-        CHECK(ind_step(list, len, u, log, 10, 3, 10).number == IND_COMPONENT);
+        CHECK(ind_step(list, len, u, log, 10, kept, sizeof kept, i,
+                       10).number == number);
+        CHECK(ind_step(list, len, u, log, 9, kept, sizeof kept, i,
+                       10).number == IND_ROOM);
+        CHECK(ind_step(list, len, u, log, 10, kept, sizeof kept, 3,
+                       10).number == IND_COMPONENT);
         u.m = 4096;
-        CHECK(ind_step(list, len, u, log, 10, i, 10).number == IND_FULL);
-        CHECK(ind_step(list, len, u, whole, sizeof whole, i, 10).number
-              == IND_FULL);
+        CHECK(ind_step(list, len, u, log, 10, kept, sizeof kept, i,
+                       10).number == IND_FULL);
+        CHECK(ind_step(list, len, u, whole, sizeof whole, kept, sizeof kept, i,
+                       10).number == IND_FULL);
         u.m = 4097;
-        CHECK(ind_step(list, len, u, log, 10, i, 10).number == IND_STATE);
-        CHECK(ind_step(list, len - 1, u, log, 10, i, 10).number == IND_LIST);
+        CHECK(ind_step(list, len, u, log, 10, kept, sizeof kept, i,
+                       10).number == IND_STATE);
+        CHECK(ind_step(list, len - 1, u, log, 10, kept, sizeof kept, i,
+                       10).number == IND_LIST);
     }
     CHECK(memcmp(before, log, sizeof log) == 0);
 
     /* run: refused at once, behind two steps, and not where the number of
      * steps ends before it */
-    r = ind_run(list, len, s.state, log, sizeof log, end_0, 2, 1);
+    r = ind_run(list, len, s.state, log, sizeof log, kept, sizeof kept, end_0,
+                2, 1);
     CHECK(r.number == IND_ENDED && r.steps == 0);
     CHECK(same_state(&r.state, &s.state));
-    r = ind_run(list, len, first.state, log, sizeof log, end_0, 6, 9);
+    r = ind_run(list, len, first.state, log, sizeof log, kept, sizeof kept,
+                end_0, 6, 9);
     CHECK(r.number == IND_ENDED && r.steps == 2 && r.state.m == 2);
-    r = ind_run(list, len, first.state, log, sizeof log, end_0, 6, 2);
+    r = ind_run(list, len, first.state, log, sizeof log, kept, sizeof kept,
+                end_0, 6, 2);
     CHECK(r.number == IND_FINE && r.steps == 2);
-    r = ind_run(list, len, first.state, log, 10, end_0, 6, 9);
+    r = ind_run(list, len, first.state, log, 10, kept, sizeof kept, end_0, 6,
+                9);
     CHECK(r.number == IND_ROOM && r.steps == 2);
-    r = ind_run(list, len, first.state, log, sizeof log, wait_1, 2, 1);
+    r = ind_run(list, len, first.state, log, sizeof log, kept, sizeof kept,
+                wait_1, 2, 1);
     CHECK(r.number == IND_FINE && r.steps == 1);
-    r = ind_run(list, len, first.state, log, sizeof log, wait_1, 6, 9);
+    r = ind_run(list, len, first.state, log, sizeof log, kept, sizeof kept,
+                wait_1, 6, 9);
     CHECK(r.number == IND_NOT_READY && r.steps == 2 && r.state.m == 2);
 
     /* undo: a pick of an ended station in the log is 15, and so is one of a
      * waiting station; the record withdrawn is not judged */
-    r = ind_run(list, len, r.state, log, sizeof log, end_0 + 2, 2, 1);
+    r = ind_run(list, len, r.state, log, sizeof log, kept, sizeof kept,
+                end_0 + 2, 2, 1);
     CHECK(r.number == IND_FINE && r.state.m == 3);
-    s = ind_undo(list, len, r.state, log, sizeof log);
+    s = ind_undo(list, len, r.state, log, sizeof log, kept, sizeof kept);
     CHECK(s.number == IND_FINE && s.state.m == 2);
     for (uint8_t i = 0; i <= 1; i++) {
         memcpy(before, log, sizeof log);
         before[8] = i;
-        t = ind_undo(list, len, r.state, before, sizeof before);
+        t = ind_undo(list, len, r.state, before, sizeof before, kept,
+                     sizeof kept);
         CHECK(t.number == IND_LOG && same_state(&t.state, &r.state));
         memcpy(before, log, sizeof log);
         before[10] = i;
-        t = ind_undo(list, len, r.state, before, sizeof before);
+        t = ind_undo(list, len, r.state, before, sizeof before, kept,
+                     sizeof kept);
         CHECK(t.number == IND_FINE && same_state(&t.state, &s.state));
     }
 
@@ -540,13 +568,14 @@ static void test_ended(void)
     add_bare(&p, IND_STATION);
     add_bare(&p, IND_SKIP);
     CHECK(ind_build(p.bytes, p.len, list, len).count == 3);
-    s = ind_start(list, 48, 0, resets, 1, log, sizeof log);
-    s = ind_step(list, 48, s.state, log, sizeof log, 0, 0);
-    t = ind_step(list, 48, s.state, log, sizeof log, 0, 0);
+    s = ind_start(list, 48, 0, resets, 1, log, sizeof log, kept, sizeof kept);
+    s = ind_step(list, 48, s.state, log, sizeof log, kept, sizeof kept, 0, 0);
+    t = ind_step(list, 48, s.state, log, sizeof log, kept, sizeof kept, 0, 0);
     CHECK(t.number == IND_ENDED);
-    t = ind_step(list, 48, s.state, log, sizeof log, 1, 0);
+    t = ind_step(list, 48, s.state, log, sizeof log, kept, sizeof kept, 1, 0);
     CHECK(t.number == IND_COMPONENT);
-    t = ind_step(list, 48, s.state, log, sizeof log, 255, 0);
+    t = ind_step(list, 48, s.state, log, sizeof log, kept, sizeof kept, 255,
+                 0);
     CHECK(t.number == IND_COMPONENT);
 
     /* "Dryer": station 1 waits, then is ready, then has ended */
@@ -569,11 +598,11 @@ static void test_readiness(void)
 
     purge(&p);
     CHECK(ind_build(p.bytes, p.len, list, sizeof list).count == 11);
-    s = ind_start(list, len, 1, resets, 3, log, sizeof log);
+    s = ind_start(list, len, 1, resets, 3, log, sizeof log, kept, sizeof kept);
     CHECK(told(list, len, s.state, 0, IND_FINE, 0));
     CHECK(told(list, len, s.state, 1, IND_NOT_READY, 5));
     CHECK(told(list, len, s.state, 2, IND_FINE, 0));
-    s = ind_step(list, len, s.state, log, sizeof log, 0, 1);
+    s = ind_step(list, len, s.state, log, sizeof log, kept, sizeof kept, 0, 1);
     CHECK(told(list, len, s.state, 0, IND_ENDED, 0));
 
     /* ready at AWAIT; whose turn it is does not matter, nor do the steps
@@ -582,7 +611,8 @@ static void test_readiness(void)
     u.var[0] = 1;
     u.pri[1] = 1;
     CHECK(told(list, len, u, 1, IND_FINE, 0));
-    CHECK(ind_step(list, len, u, log, sizeof log, 1, 0).number == IND_TURN);
+    CHECK(ind_step(list, len, u, log, sizeof log, kept, sizeof kept, 1,
+                   0).number == IND_TURN);
     u = s.state;
     u.m = 4096;
     CHECK(told(list, len, u, 0, IND_ENDED, 0));
@@ -637,7 +667,8 @@ static void test_readiness(void)
             }
             add_bare(&p, i == 0 ? IND_END : i == 1 ? IND_FI : IND_OD);
             len = ind_build(p.bytes, p.len, list, sizeof list).count * 16u;
-            s = ind_start(list, len, 0, resets, 1, log, sizeof log);
+            s = ind_start(list, len, 0, resets, 1, log, sizeof log, kept,
+                          sizeof kept);
             CHECK(s.number == IND_FINE);
             for (int j = 0; j < 5; j++) {
                 int waits = i == 0 && !holds[op % 4][j];
@@ -661,7 +692,7 @@ static void test_readiness(void)
     }
     len = ind_build(p.bytes, p.len, list, sizeof list).count * 16u;
     CHECK(len == 16 * 28);
-    s = ind_start(list, len, 0, resets, 8, log, sizeof log);
+    s = ind_start(list, len, 0, resets, 8, log, sizeof log, kept, sizeof kept);
     for (uint8_t i = 0; i < 8; i++)
         CHECK(told(list, len, s.state, i,
                    i % 2 == 0 ? IND_NOT_READY : IND_FINE,
@@ -678,7 +709,8 @@ static void test_readiness(void)
     add_bare(&p, IND_SKIP);
     add_bare(&p, IND_END);
     len = ind_build(p.bytes, p.len, longest, sizeof longest).count * 16u;
-    s = ind_start(longest, len, 0, resets, 1, log, sizeof log);
+    s = ind_start(longest, len, 0, resets, 1, log, sizeof log, kept,
+                  sizeof kept);
     CHECK(told(longest, len, s.state, 0, IND_FINE, 0));
     s.state.pos[0] = 1021;
     CHECK(told(longest, len, s.state, 0, IND_NOT_READY, 1021));
@@ -707,19 +739,21 @@ static void test_foreign_stops(void)
     uint8_t log[32];
     struct ind_state_answer s, t;
 
-    s = ind_start(list, sizeof list, 0, resets, 2, log, sizeof log);
+    s = ind_start(list, sizeof list, 0, resets, 2, log, sizeof log, kept,
+                  sizeof kept);
     CHECK(s.number == IND_FINE);
     CHECK(told(list, sizeof list, s.state, 0, IND_FINE, 0));
     CHECK(told(list, sizeof list, s.state, 1, IND_NOT_READY, 5));
-    t = ind_step(list, sizeof list, s.state, log, sizeof log, 0, 0);
+    t = ind_step(list, sizeof list, s.state, log, sizeof log, kept,
+                 sizeof kept, 0, 0);
     CHECK(t.number == IND_FINE && t.state.pos[0] == 7);
     for (int i = 0; i < 3; i++) {
         struct ind_lights_answer l;
 
         t.state.pos[0] = stop[i];
         CHECK(told(list, sizeof list, t.state, 0, IND_ENDED, 0));
-        CHECK(ind_step(list, sizeof list, t.state, log, sizeof log, 0,
-                       0).number == IND_ENDED);
+        CHECK(ind_step(list, sizeof list, t.state, log, sizeof log, kept,
+                       sizeof kept, 0, 0).number == IND_ENDED);
         l = ind_lights(list, sizeof list, t.state);
         CHECK(l.number == IND_FINE && l.ended == 1 && l.waiting == 2);
     }
@@ -729,7 +763,8 @@ static void test_foreign_stops(void)
     for (int i = 0; i < 2; i++) {
         CHECK(told(list, sizeof list, s.state, 1, IND_FINE, 0));
         s.state.pri[0] = 0;            /* so that station 1 is in turn */
-        s = ind_step(list, sizeof list, s.state, log, sizeof log, 1, 0);
+        s = ind_step(list, sizeof list, s.state, log, sizeof log, kept,
+                     sizeof kept, 1, 0);
         CHECK(s.number == IND_FINE && s.state.pos[1] == 5);
     }
     CHECK(told(list, sizeof list, s.state, 1, IND_NOT_READY, 5));
@@ -793,28 +828,31 @@ static void test_waiting_lights(void)
         add_body(&p);
         add_bare(&p, IND_END);
         len = ind_build(p.bytes, p.len, list, sizeof list).count * 16u;
-        first = ind_start(list, len, 0, resets, 2, log, sizeof log);
+        first = ind_start(list, len, 0, resets, 2, log, sizeof log, kept,
+                          sizeof kept);
 
         /* waiting: the condition's variables, and nothing written */
         l = ind_lights(list, len, first.state);
         CHECK(l.ready == 1 && l.in_turn == 1 && l.waiting == 2);
         CHECK(lit(&l, 0, 0, bits(4, 4, 4)) && lit(&l, 1, cond, 0));
         /* released: the body whole, all branches */
-        s = ind_step(list, len, first.state, log, sizeof log, 0, 0);
+        s = ind_step(list, len, first.state, log, sizeof log, kept,
+                     sizeof kept, 0, 0);
         l = ind_lights(list, len, s.state);
         CHECK(l.ready == 2 && l.in_turn == 2 && l.waiting == 0);
         CHECK(lit(&l, 0, 0, 0));
         CHECK(lit(&l, 1, cond | BODY_READS, BODY_WRITES));
         /* done */
-        t = ind_step(list, len, s.state, log, sizeof log, 1, 0);
+        t = ind_step(list, len, s.state, log, sizeof log, kept, sizeof kept, 1,
+                     0);
         l = ind_lights(list, len, t.state);
         CHECK(l.ended == 3 && lit(&l, 0, 0, 0) && lit(&l, 1, 0, 0));
         /* withdrawn: ready, then waiting */
-        t = ind_undo(list, len, t.state, log, sizeof log);
+        t = ind_undo(list, len, t.state, log, sizeof log, kept, sizeof kept);
         l = ind_lights(list, len, t.state);
         CHECK(l.ready == 2 && l.waiting == 0);
         CHECK(lit(&l, 1, cond | BODY_READS, BODY_WRITES));
-        t = ind_undo(list, len, t.state, log, sizeof log);
+        t = ind_undo(list, len, t.state, log, sizeof log, kept, sizeof kept);
         l = ind_lights(list, len, t.state);
         CHECK(l.ready == 1 && l.waiting == 2);
         CHECK(lit(&l, 0, 0, bits(4, 4, 4)) && lit(&l, 1, cond, 0));
@@ -829,7 +867,8 @@ static void test_waiting_lights(void)
             add_body(&p);
             add_bare(&p, IND_END);
             len = ind_build(p.bytes, p.len, list, sizeof list).count * 16u;
-            s = ind_start(list, len, 0, resets, 1, log, sizeof log);
+            s = ind_start(list, len, 0, resets, 1, log, sizeof log, kept,
+                          sizeof kept);
             l = ind_lights(list, len, s.state);
             CHECK(l.ready == holds && l.waiting == !holds);
             CHECK(lit(&l, 0, bits(4, 4, 4) | (holds ? BODY_READS : 0),
@@ -849,7 +888,8 @@ static void test_waiting_lights(void)
         add_bare(&p, IND_FI);
         add_bare(&p, IND_END);
         len = ind_build(p.bytes, p.len, list, sizeof list).count * 16u;
-        s = ind_start(list, len, 0, resets, 1, log, sizeof log);
+        s = ind_start(list, len, 0, resets, 1, log, sizeof log, kept,
+                      sizeof kept);
         s.state.var[9] = 5;
         s.state.var[4] = fails[op % 4];
         l = ind_lights(list, len, s.state);
@@ -881,7 +921,7 @@ static void test_waiting_beside(void)
         add_bare(&p, IND_END);
     }
     len = ind_build(p.bytes, p.len, list, sizeof list).count * 16u;
-    s = ind_start(list, len, 0, resets, 8, log, sizeof log);
+    s = ind_start(list, len, 0, resets, 8, log, sizeof log, kept, sizeof kept);
     s.state.var[31] = 1;
     for (unsigned mask = 0; mask < 256; mask++) {
         for (unsigned i = 0; i < 8; i++)
@@ -920,7 +960,7 @@ static void test_waiting_beside(void)
         add_bare(&p, IND_END);
     }
     len = ind_build(p.bytes, p.len, list, sizeof list).count * 16u;
-    s = ind_start(list, len, 0, resets, 2, log, sizeof log);
+    s = ind_start(list, len, 0, resets, 2, log, sizeof log, kept, sizeof kept);
     for (uint8_t ready = 0; ready < 2; ready++) {
         size_t waits = 1u - ready;
 
@@ -945,7 +985,8 @@ static void test_waiting_beside(void)
             }
             add_bare(&p, i == 0 ? IND_FI : IND_OD);
             len = ind_build(p.bytes, p.len, list, sizeof list).count * 16u;
-            s = ind_start(list, len, 0, resets, 1, log, sizeof log);
+            s = ind_start(list, len, 0, resets, 1, log, sizeof log, kept,
+                          sizeof kept);
             s.state.var[9] = 5;
             for (uint32_t left = 4; left <= 5; left++) {
                 s.state.var[4] = left;
@@ -978,12 +1019,14 @@ static void test_foreign_waiting(void)
     struct ind_state_answer s, t;
     struct ind_lights_answer l;
 
-    s = ind_start(list, sizeof list, 0, resets, 1, log, sizeof log);
+    s = ind_start(list, sizeof list, 0, resets, 1, log, sizeof log, kept,
+                  sizeof kept);
     CHECK(s.number == IND_FINE);
     l = ind_lights(list, sizeof list, s.state);        /* v1 = v2 */
     CHECK(l.ready == 1);
     CHECK(lit(&l, 0, bits(1, 2, 3) | bits(5, 5, 12), bits(4, 11, 11)));
-    t = ind_step(list, sizeof list, s.state, log, sizeof log, 0, 0);
+    t = ind_step(list, sizeof list, s.state, log, sizeof log, kept,
+                 sizeof kept, 0, 0);
     CHECK(t.number == IND_FINE && t.state.pos[0] == 4);
     l = ind_lights(list, sizeof list, t.state);        /* v6 is not below v7 */
     CHECK(l.waiting == 1 && lit(&l, 0, bits(6, 7, 7), 0));
@@ -1029,20 +1072,23 @@ static void test_full(void)
     add_bare(&p, IND_SKIP);
     add_bare(&p, IND_OD);
     CHECK(ind_build(p.bytes, p.len, list, sizeof list).count == 4);
-    s = ind_start(list, 64, 0, reset, 1, log, sizeof log);
-    r = ind_run(list, 64, s.state, log, sizeof log, picks, 8200, SIZE_MAX);
+    s = ind_start(list, 64, 0, reset, 1, log, sizeof log, kept, sizeof kept);
+    r = ind_run(list, 64, s.state, log, sizeof log, kept, sizeof kept, picks,
+                8200, SIZE_MAX);
     CHECK(r.number == IND_FULL && r.steps == 4096 && r.state.m == 4096);
-    r = ind_run(list, 64, s.state, log, 8193, picks, 8200, SIZE_MAX);
+    r = ind_run(list, 64, s.state, log, 8193, kept, sizeof kept, picks, 8200,
+                SIZE_MAX);
     CHECK(r.number == IND_ROOM && r.steps == 4095 && r.state.m == 4095);
-    r = ind_run(list, 64, s.state, log, 8194, picks, 8192, SIZE_MAX);
+    r = ind_run(list, 64, s.state, log, 8194, kept, sizeof kept, picks, 8192,
+                SIZE_MAX);
     CHECK(r.number == IND_FINE && r.steps == 4096);
-    s = ind_step(list, 64, r.state, NULL, 0, 9, 9);
+    s = ind_step(list, 64, r.state, NULL, 0, kept, sizeof kept, 9, 9);
     CHECK(s.number == IND_FULL && same_state(&s.state, &r.state));
-    t = ind_undo(list, 64, r.state, log, 8193);
+    t = ind_undo(list, 64, r.state, log, 8193, kept, sizeof kept);
     CHECK(t.number == IND_LOG && same_state(&t.state, &r.state));
-    t = ind_undo(list, 64, r.state, log, 8194);
+    t = ind_undo(list, 64, r.state, log, 8194, kept, sizeof kept);
     CHECK(t.number == IND_FINE && t.state.m == 4095);
-    r = ind_run(list, 64, t.state, log, 8194, picks, 2, 1);
+    r = ind_run(list, 64, t.state, log, 8194, kept, sizeof kept, picks, 2, 1);
     CHECK(r.number == IND_FINE && r.state.m == 4096);
 
     len = ind_trace(p.bytes, p.len, start, 2, picks, 8192, out, sizeof out);
@@ -1341,7 +1387,7 @@ static void check_station(const uint8_t *list, size_t len,
 {
     const uint8_t *r = list + 16 * (size_t)state->pos[j];
     uint32_t left = state->var[r[2] % 32], k = 0;
-    uint8_t number = IND_FINE, log[200];
+    uint8_t number = IND_FINE, log[200], other[IND_KEPT_BYTES];
     struct ind_state_answer s;
 
     for (int i = 3; i >= 0; i--)
@@ -1377,7 +1423,8 @@ static void check_station(const uint8_t *list, size_t len,
         CHECK(lit(l, j, reads, writes));
     }
 
-    s = ind_step(list, len, *state, log, sizeof log, (uint8_t)j, 255);
+    s = ind_step(list, len, *state, log, sizeof log, other, sizeof other,
+                 (uint8_t)j, 255);
     if (number != IND_FINE)
         CHECK(s.number == number);
     else
@@ -1391,6 +1438,7 @@ static void test_random(struct rng *g, int rounds)
     static struct maker k;
     static struct touched touched;
     static uint8_t list[IND_ITEM * IND_MAX_ITEMS], log[200], log2[200];
+    static uint8_t kept2[IND_KEPT_BYTES];
 
     for (int round = 0; round < rounds; round++) {
         uint8_t resets[8] = { 0 }, picks[160];
@@ -1416,7 +1464,8 @@ static void test_random(struct rng *g, int rounds)
             n += p.bytes[i] == IND_STATION;
         for (size_t i = 0; i < n; i++)
             resets[i] = (uint8_t)below(g, b + 1u);
-        first = ind_start(list, len, b, resets, n, log, sizeof log);
+        first = ind_start(list, len, b, resets, n, log, sizeof log, kept,
+                          sizeof kept);
         CHECK(first.number == IND_FINE);
         s = first;
         seen[0] = s.state;
@@ -1437,8 +1486,8 @@ static void test_random(struct rng *g, int rounds)
                 i = (i + 1) % 8;
             picks[2 * steps] = (uint8_t)i;
             picks[2 * steps + 1] = (uint8_t)below(g, b + 1u);
-            t = ind_step(list, len, s.state, log, sizeof log,
-                         picks[2 * steps], picks[2 * steps + 1]);
+            t = ind_step(list, len, s.state, log, sizeof log, kept,
+                         sizeof kept, picks[2 * steps], picks[2 * steps + 1]);
             CHECK(t.number == IND_FINE && t.state.m == s.state.m + 1);
 
             /* Only what the lights said is written may change. */
@@ -1464,11 +1513,13 @@ static void test_random(struct rng *g, int rounds)
 
                 other.var[steps % 32] ^= draw(g);
                 other.pri[below(g, (uint32_t)n)] = 0;
-                u = ind_undo(list, len, other, log, sizeof log);
+                u = ind_undo(list, len, other, log, sizeof log, kept,
+                             sizeof kept);
                 CHECK(u.number == IND_FINE || u.number == IND_STATE);
                 if (u.number == IND_FINE)
                     CHECK(same_state(&u.state, &s.state));
-                u = ind_undo(list, len, t.state, log, sizeof log);
+                u = ind_undo(list, len, t.state, log, sizeof log, kept,
+                             sizeof kept);
                 CHECK(u.number == IND_FINE && same_state(&u.state, &s.state));
             }
             s = t;
@@ -1476,28 +1527,35 @@ static void test_random(struct rng *g, int rounds)
             seen[steps] = s.state;
         }
 
-        /* The same steps in one run, with its own log. */
+        /* The same steps in one run, with its own log and kept buffer. */
         memset(log2, 0, sizeof log2);
-        t = ind_start(list, len, b, resets, n, log2, sizeof log2);
-        r = ind_run(list, len, t.state, log2, sizeof log2, picks, 2 * steps,
-                    1000);
+        t = ind_start(list, len, b, resets, n, log2, sizeof log2, kept2,
+                      sizeof kept2);
+        r = ind_run(list, len, t.state, log2, sizeof log2, kept2, sizeof kept2,
+                    picks, 2 * steps, 1000);
         CHECK(r.number == IND_FINE && r.steps == steps);
         CHECK(same_state(&r.state, &s.state));
         CHECK(memcmp(log, log2, 2 * (n + steps)) == 0);
+        if (steps >= IND_KEPT_EVERY)
+            CHECK(memcmp(kept, kept2, IND_KEPT_PLACE) == 0);
 
         /* All withdrawn. */
         for (size_t i = steps; i > 0; i--) {
-            s = ind_undo(list, len, s.state, log, sizeof log);
+            s = ind_undo(list, len, s.state, log, sizeof log, kept,
+                         sizeof kept);
             CHECK(s.number == IND_FINE && same_state(&s.state, &seen[i - 1]));
         }
-        s = ind_undo(list, len, s.state, log, sizeof log);
+        s = ind_undo(list, len, s.state, log, sizeof log, kept, sizeof kept);
         CHECK(s.number == IND_EMPTY && same_state(&s.state, &first.state));
 
-        t = ind_start(list, len - 16, b, resets, n, log, sizeof log);
+        t = ind_start(list, len - 16, b, resets, n, log, sizeof log, kept,
+                      sizeof kept);
         CHECK(t.number == IND_LIST && zero_state(&t.state));
-        t = ind_start(list, len, b, resets, n - 1, log, sizeof log);
+        t = ind_start(list, len, b, resets, n - 1, log, sizeof log, kept,
+                      sizeof kept);
         CHECK(t.number == IND_RESET && zero_state(&t.state));
-        t = ind_start(list, len, b, resets, n, log, 2 * n - 1);
+        t = ind_start(list, len, b, resets, n, log, 2 * n - 1, kept,
+                      sizeof kept);
         CHECK(t.number == IND_ROOM && zero_state(&t.state));
     }
 }
@@ -1559,7 +1617,8 @@ static void test_random_lights(struct rng *g, int rounds)
         find_touched(&touched, list, len);
         for (size_t i = 0; i < 8; i++)
             resets[i] = (uint8_t)below(g, b + 1u);
-        s = ind_start(list, len, b, resets, n, log, sizeof log);
+        s = ind_start(list, len, b, resets, n, log, sizeof log, kept,
+                      sizeof kept);
         CHECK(s.number == IND_FINE);
         for (int turn = 0; turn < 60; turn++) {
             struct ind_state changed = s.state;
@@ -1586,11 +1645,13 @@ static void test_random_lights(struct rng *g, int rounds)
             /* a step or an undo */
             l = ind_lights(list, len, s.state);
             if (s.state.m > 0 && (l.in_turn == 0 || chance(g, 30))) {
-                s = ind_undo(list, len, s.state, log, sizeof log);
+                s = ind_undo(list, len, s.state, log, sizeof log, kept,
+                             sizeof kept);
             } else if (l.in_turn != 0) {
                 while ((l.in_turn >> i & 1) == 0)
                     i = (i + 1) % 8;
-                s = ind_step(list, len, s.state, log, sizeof log, (uint8_t)i,
+                s = ind_step(list, len, s.state, log, sizeof log, kept,
+                             sizeof kept, (uint8_t)i,
                              (uint8_t)below(g, b + 1u));
             }
             CHECK(s.number == IND_FINE);
@@ -1625,10 +1686,1193 @@ static void test_loop_ends_branch(void)
     CHECK(list[64 + 10] == 5 && list[64 + 12] == 0);
 }
 
+/* ------------------------------------------------------------------ */
+/* Kept states                                                        */
+/* ------------------------------------------------------------------ */
+
+/* The kept buffer of a panel is longer than it has to be. */
+enum { PANEL_KEPT = IND_KEPT_BYTES + 40 };
+
+/* A list being run, with its log and its kept buffer; the states with 0 to m
+ * steps, and what the kept buffer has to hold. */
+struct panel {
+    uint8_t list[IND_ITEM * 128];
+    size_t len;
+    size_t n;
+    struct ind_state state;
+    uint8_t log[2 * (IND_STATIONS + IND_MAX_STEPS)];
+    uint8_t kept[PANEL_KEPT];
+    struct ind_state seen[IND_MAX_STEPS + 1];
+    uint8_t want[PANEL_KEPT];
+};
+
+/* The bytes of a kept place, as docs/KEPT.md has them. */
+static void encoded(const struct ind_state *s, uint8_t out[IND_KEPT_PLACE])
+{
+    memset(out, 0, IND_KEPT_PLACE);
+    for (int v = 0; v < 32; v++)
+        for (int i = 0; i < 4; i++)
+            out[4 * v + i] = (uint8_t)(s->var[v] >> 8 * i & 255);
+    for (int j = 0; j < 8; j++) {
+        int higher = s->pri[j] + 32768;
+
+        out[128 + 2 * j] = (uint8_t)(s->pos[j] % 256);
+        out[129 + 2 * j] = (uint8_t)(s->pos[j] / 256);
+        out[144 + 2 * j] = (uint8_t)(higher % 256);
+        out[145 + 2 * j] = (uint8_t)(higher / 256);
+    }
+    out[176] = s->n;
+    out[177] = s->b;
+    out[178] = (uint8_t)(s->m % 256);
+    out[179] = (uint8_t)(s->m / 256);
+}
+
+/* The state in the bytes of a kept place; those that have to be zero are not
+ * looked at. */
+static struct ind_state decoded(const uint8_t *p)
+{
+    struct ind_state s;
+
+    for (int v = 0; v < 32; v++) {
+        s.var[v] = 0;
+        for (int i = 3; i >= 0; i--)
+            s.var[v] = s.var[v] << 8 | p[4 * v + i];
+    }
+    for (int j = 0; j < 8; j++) {
+        s.pos[j] = (uint16_t)(p[128 + 2 * j] + 256 * p[129 + 2 * j]);
+        s.pri[j] = (int16_t)(p[144 + 2 * j] + 256 * p[145 + 2 * j] - 32768);
+    }
+    s.n = p[176];
+    s.b = p[177];
+    s.m = (uint16_t)(p[178] + 256 * p[179]);
+    return s;
+}
+
+/* Where kept place j begins. */
+static uint8_t *kept_at(uint8_t *buf, size_t j)
+{
+    return buf + 184 * (j - 1);
+}
+
+/* Document 01's undo where the log is as the calls left it: all of the first
+ * n+m-1 records replayed, from the start on. */
+static struct ind_state slow_undo(const struct panel *x)
+{
+    static uint8_t log[2 * (IND_STATIONS + IND_MAX_STEPS)];
+    static uint8_t other[IND_KEPT_BYTES];
+    uint8_t resets[8];
+    struct ind_state_answer s;
+    struct ind_run_answer r;
+
+    for (size_t i = 0; i < x->n; i++) {
+        CHECK(x->log[2 * i] == i);
+        resets[i] = x->log[2 * i + 1];
+    }
+    s = ind_start(x->list, x->len, x->state.b, resets, x->n, log, sizeof log,
+                  other, sizeof other);
+    CHECK(s.number == IND_FINE);
+    r = ind_run(x->list, x->len, s.state, log, sizeof log, other, sizeof other,
+                x->log + 2 * x->n, 2 * (x->state.m - 1u), SIZE_MAX);
+    CHECK(r.number == IND_FINE && r.steps == x->state.m - 1u);
+    return r.state;
+}
+
+/* Undo by its definition on anything, test by test; soundness is what the
+ * lights say of a state. */
+static struct ind_state_answer defined_undo(const uint8_t *list, size_t len,
+                                            struct ind_state state,
+                                            const uint8_t *log, size_t loglen,
+                                            const uint8_t *buf, size_t buflen)
+{
+    static uint8_t log2[2 * (IND_STATIONS + IND_MAX_STEPS)];
+    static uint8_t buf2[IND_KEPT_BYTES];
+    struct ind_state_answer answer = { IND_FINE, state };
+    struct ind_state from;
+    struct ind_run_answer r;
+    size_t q, n = state.n;
+
+    answer.number = ind_lights(list, len, state).number;
+    if (answer.number == IND_FINE && state.m == 0)
+        answer.number = IND_EMPTY;
+    if (answer.number == IND_FINE && buflen < 11776)
+        answer.number = IND_ROOM;
+    if (answer.number != IND_FINE)
+        return answer;
+    q = ((size_t)state.m - 1) / 64;
+    if (q > 0) {
+        const uint8_t *p = buf + 184 * (q - 1);
+
+        from = decoded(p);
+        for (int i = 160; i < 184; i++)
+            if ((i < 176 || i > 179) && p[i] != 0)
+                answer.number = IND_STATE;
+        if (ind_lights(list, len, from).number != IND_FINE
+            || from.m != 64 * q || from.b != state.b)
+            answer.number = IND_STATE;
+        if (answer.number != IND_FINE)
+            return answer;
+    }
+    answer.number = IND_LOG;
+    if (loglen < 2 * (n + state.m))
+        return answer;
+    if (q == 0) {
+        uint8_t resets[8];
+        struct ind_state_answer s;
+
+        for (size_t i = 0; i < n; i++) {
+            if (log[2 * i] != i)
+                return answer;
+            resets[i] = log[2 * i + 1];
+        }
+        s = ind_start(list, len, state.b, resets, n, log2, sizeof log2, buf2,
+                      sizeof buf2);
+        if (s.number != IND_FINE)
+            return answer;
+        from = s.state;
+    }
+    r = ind_run(list, len, from, log2, sizeof log2, buf2, sizeof buf2,
+                log + 2 * (n + 64 * q), 2 * (state.m - 1 - 64 * q), SIZE_MAX);
+    if (r.number != IND_FINE)
+        return answer;
+    answer.number = IND_FINE;
+    answer.state = r.state;
+    return answer;
+}
+
+/* Whether undo answers what its definition says, and this number. */
+static int undone(const struct panel *x, const struct ind_state *state,
+                  size_t loglen, size_t keptlen, uint8_t number)
+{
+    struct ind_state_answer a = ind_undo(x->list, x->len, *state, x->log,
+                                         loglen, x->kept, keptlen);
+    struct ind_state_answer b = defined_undo(x->list, x->len, *state, x->log,
+                                             loglen, x->kept, keptlen);
+
+    return a.number == number && b.number == number
+        && same_state(&a.state, &b.state)
+        && (number == IND_FINE || same_state(&a.state, state));
+}
+
+/* n stations that never end, all 32 variables with four bytes that are not
+ * zero at the start; station 1 waits for station 0 by turns. */
+static void wheels(struct sequence *p, uint8_t n)
+{
+    p->len = 0;
+    for (uint8_t v = 0; v < 32; v++)
+        add(p, IND_SET, v, 0, 0, 0x11213141 + 0x03050709 * (uint32_t)v);
+    add(p, IND_SET, 30, 0, 0, 0);
+    for (uint8_t i = 0; i < n; i++) {
+        add_bare(p, IND_STATION);
+        add(p, IND_WHILE, 0, 31, 4, 31);           /* for ever */
+        add(p, IND_SET, i, i, 2, 0x01030507 + 2u * i);
+        if (i == 0)
+            add(p, IND_SET, 30, 30, 2, 1);
+        if (i == 1) {
+            add(p, IND_AWAIT, 0, 30, 3, 1);        /* AWAIT v30 >= 1 */
+            add(p, IND_SET, 30, 30, 3, 1);
+            add_bare(p, IND_END);
+        }
+        add(p, IND_IF, 0, i, 6, (uint32_t)i + 8);
+        add(p, IND_SET, (uint8_t)(16 + i), (uint8_t)(16 + i), 5, i);
+        add_bare(p, IND_ELSE);
+        add(p, IND_SET, (uint8_t)(8 + i), (uint8_t)(16 + i), 4, i);
+        add_bare(p, IND_FI);
+        add_bare(p, IND_OD);
+    }
+}
+
+/* Builds the wheels into the panel; its kept buffer is full of junk. */
+static void set_up(struct panel *x, uint8_t n)
+{
+    static struct sequence p;
+    struct ind_build_answer b;
+
+    wheels(&p, n);
+    b = ind_build(p.bytes, p.len, x->list, sizeof x->list);
+    CHECK(b.number == IND_FINE);
+    x->len = 16 * (size_t)b.count;
+    x->n = n;
+    for (size_t i = 0; i < sizeof x->kept; i++)
+        x->kept[i] = (uint8_t)(1 + 7 * i % 255);
+    memcpy(x->want, x->kept, sizeof x->want);
+}
+
+/* Starts the panel; the kept buffer has to stay as it is. */
+static void set_off(struct panel *x, uint8_t b, const uint8_t *resets)
+{
+    struct ind_state_answer s = ind_start(x->list, x->len, b, resets, x->n,
+                                          x->log, sizeof x->log, x->kept,
+                                          sizeof x->kept);
+
+    CHECK(s.number == IND_FINE);
+    CHECK(memcmp(x->kept, x->want, sizeof x->kept) == 0);
+    x->state = s.state;
+    x->seen[0] = s.state;
+}
+
+/* A pick that step takes; the wheels always have one. */
+static void good_pick(struct rng *g, const struct panel *x,
+                      const struct ind_state *state, uint8_t pick[2])
+{
+    struct ind_lights_answer l = ind_lights(x->list, x->len, *state);
+    uint8_t i = (uint8_t)below(g, 8);
+
+    CHECK(l.in_turn != 0);
+    while (l.in_turn != 0 && (l.in_turn >> i & 1) == 0)
+        i = (uint8_t)((i + 1) % 8);
+    pick[0] = i;
+    pick[1] = (uint8_t)below(g, state->b + 1u);
+}
+
+/* What the kept buffer has to hold once the state is reached. */
+static void reached(struct panel *x)
+{
+    x->seen[x->state.m] = x->state;
+    if (x->state.m % 64 == 0)
+        encoded(&x->state, kept_at(x->want, x->state.m / 64));
+    CHECK(memcmp(x->kept, x->want, sizeof x->kept) == 0);
+}
+
+/* Takes a good pick by a step. */
+static void take_step(struct rng *g, struct panel *x)
+{
+    struct ind_state_answer s;
+    uint8_t pick[2];
+
+    good_pick(g, x, &x->state, pick);
+    s = ind_step(x->list, x->len, x->state, x->log, sizeof x->log, x->kept,
+                 sizeof x->kept, pick[0], pick[1]);
+    CHECK(s.number == IND_FINE && s.state.m == x->state.m + 1);
+    x->state = s.state;
+    reached(x);
+}
+
+static void take_steps(struct rng *g, struct panel *x, size_t count)
+{
+    while (count-- > 0)
+        take_step(g, x);
+}
+
+/* Takes up to `count` good picks by one run, and the same by steps of a log
+ * and a kept buffer of their own. */
+static void take_run(struct rng *g, struct panel *x, size_t count)
+{
+    static uint8_t log[2 * (IND_STATIONS + IND_MAX_STEPS)];
+    static uint8_t other[PANEL_KEPT];
+    static uint8_t picks[2 * IND_MAX_STEPS];
+    struct ind_state_answer s = { IND_FINE, x->state };
+    struct ind_run_answer r;
+
+    memcpy(log, x->log, sizeof log);
+    memcpy(other, x->kept, sizeof other);
+    for (size_t i = 0; i < count; i++) {
+        good_pick(g, x, &s.state, picks + 2 * i);
+        s = ind_step(x->list, x->len, s.state, log, sizeof log, other,
+                     sizeof other, picks[2 * i], picks[2 * i + 1]);
+        CHECK(s.number == IND_FINE);
+        x->seen[s.state.m] = s.state;
+        if (s.state.m % 64 == 0)
+            encoded(&s.state, kept_at(x->want, s.state.m / 64));
+    }
+    r = ind_run(x->list, x->len, x->state, x->log, sizeof x->log, x->kept,
+                sizeof x->kept, picks, 2 * count, SIZE_MAX);
+    CHECK(r.number == IND_FINE && r.steps == count);
+    CHECK(same_state(&r.state, &s.state));
+    CHECK(memcmp(x->log, log, sizeof log) == 0);
+    CHECK(memcmp(x->kept, other, sizeof other) == 0);
+    x->state = r.state;
+    reached(x);
+}
+
+/* Withdraws a step: the state before it, whole; no lent byte is written.  Goes
+ * on from that state, whatever was answered. */
+static void take_undo(struct panel *x, int slowly)
+{
+    struct ind_state_answer s;
+
+    CHECK(x->state.m > 0);
+    if (x->state.m == 0)
+        return;
+    s = ind_undo(x->list, x->len, x->state, x->log, sizeof x->log, x->kept,
+                 sizeof x->kept);
+    CHECK(s.number == IND_FINE && s.state.m + 1 == x->state.m);
+    CHECK(same_state(&s.state, &x->seen[x->state.m - 1]));
+    CHECK(memcmp(x->kept, x->want, sizeof x->kept) == 0);
+    if (slowly) {
+        struct ind_state slow = slow_undo(x);
+
+        CHECK(same_state(&s.state, &slow));
+    }
+    x->state = x->seen[x->state.m - 1];
+}
+
+/* Undo with the panel's log and kept buffer as they are and just long enough,
+ * from the state with m steps: 0 and the state before. */
+static int goes_back(const struct panel *x, uint16_t m)
+{
+    struct ind_state_answer s = ind_undo(x->list, x->len, x->seen[m], x->log,
+                                         2 * (x->n + m), x->kept,
+                                         IND_KEPT_BYTES);
+
+    return s.number == IND_FINE && same_state(&s.state, &x->seen[m - 1])
+        && undone(x, &x->seen[m], 2 * (x->n + m), IND_KEPT_BYTES, IND_FINE);
+}
+
+static const uint8_t nothing[8] = { 0 };
+
+/* The bytes of a kept place, one by one. */
+static void test_kept_bytes(void)
+{
+    /* two stations, each a SKIP that leads to itself */
+    static const uint8_t list[] = {
+        16, 0, 0, 0, 0, 0, 0, 0, 0, 0, 2, 0, 0, 0, 0, 0,
+        16, 1, 0, 0, 0, 0, 0, 0, 1, 0, 3, 0, 0, 0, 0, 0,
+        2, 0, 0, 0, 0, 0, 0, 0, 0, 0, 2, 0, 0, 0, 0, 0,
+        2, 0, 0, 0, 0, 0, 0, 0, 1, 0, 3, 0, 0, 0, 0, 0
+    };
+    static struct sequence p;
+    static uint8_t longest[IND_ITEM * IND_MAX_ITEMS];
+    static uint8_t log[8300], buf[IND_KEPT_BYTES + 1];
+    struct ind_state_answer s;
+    struct ind_state u = { 0 };
+    uint8_t want[184] = { 0 };
+    size_t len;
+
+    u.var[0] = 0x04030201;
+    u.var[9] = 0xFFFEFDFC;
+    u.var[31] = 0x80706050;
+    u.pos[0] = 2;
+    u.pos[1] = 3;
+    u.n = 2;
+    u.b = 9;
+    memcpy(want, "\x01\x02\x03\x04", 4);
+    memcpy(want + 36, "\xFC\xFD\xFE\xFF", 4);
+    memcpy(want + 124, "\x50\x60\x70\x80", 4);
+    want[128] = 2;
+    want[130] = 3;
+    memcpy(want + 144, "\x09\x80\xFF\x7F", 4);    /* "-1 the bytes 255, 127" */
+    for (int i = 149; i < 160; i += 2)
+        want[i] = 128;                            /* "0 is the bytes 0, 128" */
+    want[176] = 2;
+    want[177] = 9;
+
+    /* a place, and no other byte */
+    for (int k = 0; k < 6; k++) {
+        static const size_t places[6] = { 1, 2, 4, 5, 63, 64 };
+        size_t j = places[k];
+
+        memset(buf, 0xA7, sizeof buf);
+        u.m = (uint16_t)(64 * j - 1);
+        s = ind_step(list, sizeof list, u, log, sizeof log, buf, sizeof buf, 0,
+                     9);
+        CHECK(s.number == IND_FINE && s.state.m == 64 * j);
+        want[178] = (uint8_t)(64 * j % 256);
+        want[179] = (uint8_t)(64 * j / 256);
+        CHECK(memcmp(buf + 184 * (j - 1), want, 184) == 0);
+        for (size_t i = 0; i < sizeof buf; i++)
+            if (i < 184 * (j - 1) || i >= 184 * j)
+                CHECK(buf[i] == 0xA7);
+    }
+    CHECK(memcmp(want + 176, "\x02\x09\x00\x10", 4) == 0);
+
+    /* a position of two bytes */
+    p.len = 0;
+    add_bare(&p, IND_STATION);
+    while (p.len < IND_MAX_FILE)
+        add_bare(&p, IND_SKIP);
+    len = ind_build(p.bytes, p.len, longest, sizeof longest).count * 16u;
+    s = ind_start(longest, len, 0, nothing, 1, log, sizeof log, buf,
+                  sizeof buf);
+    s.state.pos[0] = 1022;
+    s.state.m = 63;
+    s = ind_step(longest, len, s.state, log, sizeof log, buf, sizeof buf, 0,
+                 0);
+    CHECK(s.number == IND_FINE && s.state.pos[0] == 1023);
+    CHECK(buf[128] == 255 && buf[129] == 3 && buf[130] == 0);
+
+    /* what is encoded is decoded */
+    for (int pri = -32768; pri <= 32767; pri++) {
+        struct ind_state t;
+
+        u.pri[pri & 7] = (int16_t)pri;
+        encoded(&u, want);
+        t = decoded(want);
+        CHECK(same_state(&t, &u));
+    }
+}
+
+/* 4,096 steps by one run, over junk; each withdrawn, down to the start. */
+static void test_deep(struct rng *g)
+{
+    static struct panel x;
+    int lowest = 0, highest = 0;
+
+    for (uint8_t n = 1; n <= 8; n++) {
+        uint8_t b = (uint8_t)(n == 1 ? 255 : 3 * (n % 4));
+        uint8_t resets[8];
+        struct ind_state_answer s;
+
+        set_up(&x, n);
+        for (int i = 0; i < 8; i++)
+            resets[i] = (uint8_t)below(g, b + 1u);
+        set_off(&x, b, resets);
+        take_run(g, &x, 4096);
+        s = ind_step(x.list, x.len, x.state, x.log, sizeof x.log, x.kept,
+                     sizeof x.kept, 0, 0);
+        CHECK(s.number == IND_FULL && same_state(&s.state, &x.state));
+        for (uint16_t m = 64; m <= 4096; m = (uint16_t)(m + 64)) {
+            struct ind_state there = decoded(kept_at(x.kept, m / 64u));
+
+            CHECK(same_state(&there, &x.seen[m]));
+            for (int v = 0; v < 8; v++)
+                CHECK(there.var[v + 24] == x.seen[0].var[v + 24] || v == 6);
+            for (int i = 0; i < n; i++) {
+                lowest = there.pri[i] < lowest ? there.pri[i] : lowest;
+                highest = there.pri[i] > highest ? there.pri[i] : highest;
+            }
+        }
+        while (x.state.m > 0)
+            take_undo(&x, x.state.m % 97 == 0 || x.state.m % 64 < 2);
+        s = ind_undo(x.list, x.len, x.state, x.log, sizeof x.log, x.kept,
+                     sizeof x.kept);
+        CHECK(s.number == IND_EMPTY && same_state(&s.state, &x.seen[0]));
+    }
+    CHECK(lowest < -3 && highest > 3);
+}
+
+/* "so a run undone and then taken another way never uses an old state" */
+static void test_another_way(struct rng *g)
+{
+    static const uint16_t multiples[5] = { 64, 128, 1984, 4032, 4096 };
+    static struct panel x;
+
+    for (uint8_t n = 2; n <= 8; n++) {
+        for (int k = 0; k < 5; k++) {
+            uint16_t m = multiples[k], past = (uint16_t)(m < 4096 ? m + 5 : m);
+            struct ind_state old;
+
+            set_up(&x, n);
+            set_off(&x, 6, nothing);
+            take_run(g, &x, past);
+            old = x.seen[m];
+            while (x.state.m >= m)          /* the old state stays there */
+                take_undo(&x, 0);
+            for (int tries = 0; tries < 50; tries++) {
+                take_step(g, &x);           /* until a step reaches it */
+                if (!same_state(&x.state, &old))
+                    break;
+                take_undo(&x, 1);
+            }
+            CHECK(x.state.m == m);
+            take_steps(g, &x, (size_t)(past - m));
+            while (x.state.m > m - 2)
+                take_undo(&x, 1);
+        }
+    }
+
+    /* a start anew: what is in the places does not count, and stays */
+    set_up(&x, 3);
+    set_off(&x, 2, nothing);
+    take_run(g, &x, 200);
+    set_off(&x, 4, nothing);
+    take_run(g, &x, 63);
+    CHECK(goes_back(&x, 63));
+    take_step(g, &x);
+    CHECK(goes_back(&x, 64));
+    take_step(g, &x);
+    CHECK(goes_back(&x, 65));
+    take_run(g, &x, 62);
+    CHECK(goes_back(&x, 127));
+    while (x.state.m > 0)
+        take_undo(&x, 1);
+}
+
+/* Calls at random, undos by the dozen, other ways taken, starts anew, refused
+ * calls: undo is document 01's, and never 6, 8 or 15. */
+static void test_histories(struct rng *g, int rounds)
+{
+    static struct panel x;
+    unsigned long again = 0, deepest = 0;
+
+    for (int round = 0; round < rounds; round++) {
+        uint8_t n = (uint8_t)(1 + round % 8);
+        uint8_t b = (uint8_t)(chance(g, 80) ? below(g, 6) : draw(g) & 255);
+        size_t most = round % 20 == 0 ? 4096 : 700;
+        uint8_t resets[8];
+
+        set_up(&x, n);
+        for (int i = 0; i < 8; i++)
+            resets[i] = (uint8_t)below(g, b + 1u);
+        set_off(&x, b, resets);
+        for (int burst = 0; burst < (most == 4096 ? 150 : 40); burst++) {
+            uint32_t what = below(g, most == 4096 ? 91 : 100);
+            size_t count = below(g, chance(g, 50) ? 12 : 150);
+
+            if (most == 4096 && what < 55)
+                count *= 3;
+            if (chance(g, 30))          /* to just about a multiple */
+                count = 62 + below(g, 5) + 64 - x.state.m % 64u;
+            if (what < 35) {
+                if (count > most - x.state.m)
+                    count = most - x.state.m;
+                take_steps(g, &x, count);
+            } else if (what < 55) {
+                if (count > most - x.state.m)
+                    count = most - x.state.m;
+                take_run(g, &x, count);
+            } else if (what < 90) {
+                for (size_t i = 0; i < count && x.state.m > 0; i++) {
+                    again += x.state.m % 64 == 0;
+                    take_undo(&x, i < 3 || i + 3 > count || chance(g, 3));
+                }
+            } else if (what < 93) {
+                b = (uint8_t)below(g, 6);
+                for (int i = 0; i < 8; i++)
+                    resets[i] = (uint8_t)below(g, b + 1u);
+                set_off(&x, b, resets);
+            } else {                    /* refused: nothing is written */
+                struct ind_state_answer s;
+                int full = x.state.m == 4096;
+                uint8_t pick[2];
+
+                good_pick(g, &x, &x.state, pick);
+                s = ind_step(x.list, x.len, x.state, x.log, sizeof x.log,
+                             x.kept, IND_KEPT_BYTES - 1, pick[0], pick[1]);
+                CHECK(s.number == (full ? IND_FULL : IND_ROOM));
+                CHECK(same_state(&s.state, &x.state));
+                s = ind_step(x.list, x.len, x.state, x.log, sizeof x.log,
+                             x.kept, sizeof x.kept, n, 0);
+                CHECK(s.number == (full ? IND_FULL : IND_COMPONENT));
+                CHECK(same_state(&s.state, &x.state));
+                s = ind_start(x.list, x.len, b, resets, n + 1u, x.log,
+                              sizeof x.log, x.kept, sizeof x.kept);
+                CHECK(s.number == IND_RESET);
+                CHECK(memcmp(x.kept, x.want, sizeof x.kept) == 0);
+            }
+            if (x.state.m > deepest)
+                deepest = x.state.m;
+        }
+        /* all of the places that count, and no more than the log lends */
+        for (uint16_t m = 64; m <= x.state.m; m = (uint16_t)(m + 64)) {
+            struct ind_state there = decoded(kept_at(x.kept, m / 64u));
+
+            CHECK(same_state(&there, &x.seen[m]));
+            CHECK(m >= x.state.m || goes_back(&x, (uint16_t)(m + 1)));
+        }
+        while (x.state.m > 0)
+            take_undo(&x, x.state.m % 50 == 0);
+    }
+    CHECK(again > 300 && deepest == 4096);
+}
+
+/* Which step writes, and which does not: m+1 a multiple of 64. */
+static void test_who_keeps(struct rng *g)
+{
+    static struct panel x;
+    static struct ind_state waits;
+    uint8_t pick[2], third[6];
+    struct ind_state_answer s;
+    struct ind_run_answer r;
+
+    set_up(&x, 4);
+    set_off(&x, 3, nothing);
+    take_run(g, &x, 62);
+    CHECK(memcmp(x.kept, x.want, sizeof x.kept) == 0);
+    take_step(g, &x);                       /* 63: nothing yet */
+
+    /* a refused step at m = 63 writes nothing: 6 by the log and by the kept
+     * buffer, 10, 16, 11, 12, 13 */
+    good_pick(g, &x, &x.state, pick);
+    s = ind_step(x.list, x.len, x.state, x.log, 2 * (4 + 64) - 1, x.kept,
+                 sizeof x.kept, pick[0], pick[1]);
+    CHECK(s.number == IND_ROOM && same_state(&s.state, &x.state));
+    s = ind_step(x.list, x.len, x.state, x.log, sizeof x.log, x.kept,
+                 IND_KEPT_BYTES - 1, pick[0], pick[1]);
+    CHECK(s.number == IND_ROOM && same_state(&s.state, &x.state));
+    s = ind_step(x.list, x.len, x.state, x.log, sizeof x.log, x.kept,
+                 sizeof x.kept, 4, 0);
+    CHECK(s.number == IND_COMPONENT);
+    s = ind_step(x.list, x.len, x.state, x.log, sizeof x.log, x.kept,
+                 sizeof x.kept, pick[0], 4);
+    CHECK(s.number == IND_RESET);
+    waits = x.state;
+    for (int i = 0; i < 4; i++) {           /* 12 and 11 by one of them */
+        waits.pri[i] = (int16_t)(i == 1 ? -3 : i == 3 ? 3 : 0);
+        waits.pos[i] = x.seen[0].pos[i];
+    }
+    s = ind_step(x.list, x.len, waits, x.log, sizeof x.log, x.kept,
+                 sizeof x.kept, 3, 0);
+    CHECK(s.number == IND_TURN);
+    while (x.list[16 * (size_t)waits.pos[1]] != IND_AWAIT)
+        waits.pos[1]++;
+    waits.var[30] = 0;
+    s = ind_step(x.list, x.len, waits, x.log, sizeof x.log, x.kept,
+                 sizeof x.kept, 1, 0);
+    CHECK(s.number == IND_NOT_READY);
+    while (x.list[16 * (size_t)waits.pos[1]] != IND_STOP)
+        waits.pos[1]++;
+    s = ind_step(x.list, x.len, waits, x.log, sizeof x.log, x.kept,
+                 sizeof x.kept, 1, 0);
+    CHECK(s.number == IND_ENDED);
+    CHECK(memcmp(x.kept, x.want, sizeof x.kept) == 0);
+
+    /* a run whose first pick is refused, and one refused behind the step that
+     * reaches 64: that one stands, and is kept */
+    third[0] = 255;
+    third[1] = 0;
+    r = ind_run(x.list, x.len, x.state, x.log, sizeof x.log, x.kept,
+                sizeof x.kept, third, 2, 9);
+    CHECK(r.number == IND_COMPONENT && r.steps == 0);
+    CHECK(memcmp(x.kept, x.want, sizeof x.kept) == 0);
+    memcpy(third, pick, 2);
+    third[2] = 255;
+    third[3] = 0;
+    memcpy(third + 4, pick, 2);
+    r = ind_run(x.list, x.len, x.state, x.log, sizeof x.log, x.kept,
+                sizeof x.kept, third, 6, 9);
+    CHECK(r.number == IND_COMPONENT && r.steps == 1 && r.state.m == 64);
+    x.state = r.state;
+    reached(&x);
+    CHECK(goes_back(&x, 64));
+
+    /* 65 writes nothing, nor do 127 and 129; 128 does */
+    take_step(g, &x);
+    take_run(g, &x, 62);
+    CHECK(x.state.m == 127);
+    CHECK(memcmp(x.kept, x.want, sizeof x.kept) == 0);
+    take_step(g, &x);
+    take_step(g, &x);
+    CHECK(goes_back(&x, 128) && goes_back(&x, 129));
+
+    /* a state given with m = 64 that no call made: a step refused there and
+     * the step to 65 write nothing; given with m = 127 the step writes what it
+     * answers */
+    waits = x.seen[0];
+    waits.m = 64;
+    memset(x.want, 0x66, sizeof x.want);
+    memset(x.kept, 0x66, sizeof x.kept);
+    good_pick(g, &x, &waits, pick);
+    s = ind_step(x.list, x.len, waits, x.log, sizeof x.log, x.kept,
+                 sizeof x.kept, 4, 0);
+    CHECK(s.number == IND_COMPONENT);
+    s = ind_step(x.list, x.len, waits, x.log, sizeof x.log, x.kept,
+                 sizeof x.kept, pick[0], 4);
+    CHECK(s.number == IND_RESET);
+    CHECK(memcmp(x.kept, x.want, sizeof x.kept) == 0);
+    s = ind_step(x.list, x.len, waits, x.log, sizeof x.log, x.kept,
+                 sizeof x.kept, pick[0], pick[1]);
+    CHECK(s.number == IND_FINE && s.state.m == 65);
+    CHECK(memcmp(x.kept, x.want, sizeof x.kept) == 0);
+    waits.m = 127;
+    s = ind_step(x.list, x.len, waits, x.log, sizeof x.log, x.kept,
+                 IND_KEPT_BYTES, pick[0], pick[1]);
+    CHECK(s.number == IND_FINE && s.state.m == 128);
+    encoded(&s.state, kept_at(x.want, 2));
+    CHECK(memcmp(x.kept, x.want, sizeof x.kept) == 0);
+}
+
+/* 6 by the kept buffer and its place in the order of each call. */
+static void test_kept_room(struct rng *g)
+{
+    static struct panel x;
+    static uint8_t log[2 * (IND_STATIONS + IND_MAX_STEPS)];
+    static const uint8_t high[3] = { 0, 4, 0 };
+    size_t full = IND_KEPT_BYTES, shortest;
+    struct ind_state_answer s;
+    struct ind_run_answer r;
+    struct ind_state u;
+    uint8_t pick[4];
+
+    CHECK(full == 64 * 184);
+    set_up(&x, 3);
+    memset(log, 0xEE, sizeof log);
+    for (shortest = 0; shortest < full; shortest = shortest * 2 + 1) {
+        size_t less = full - 1 - shortest;
+
+        /* start: 7, 13, 6 by the log, 6 by the kept buffer */
+        s = ind_start(x.list, x.len, 3, nothing, 3, log, sizeof log, x.kept,
+                      less);
+        CHECK(s.number == IND_ROOM && zero_state(&s.state));
+        s = ind_start(x.list, x.len, 3, nothing, 3, log, 5, x.kept, less);
+        CHECK(s.number == IND_ROOM && zero_state(&s.state));
+        s = ind_start(x.list, x.len, 3, high, 3, log, 5, x.kept, less);
+        CHECK(s.number == IND_RESET && zero_state(&s.state));
+        s = ind_start(x.list, x.len - 1, 3, high, 3, log, 5, x.kept, less);
+        CHECK(s.number == IND_LIST && zero_state(&s.state));
+    }
+    s = ind_start(x.list, x.len, 3, nothing, 3, log, sizeof log, NULL, 0);
+    CHECK(s.number == IND_ROOM && zero_state(&s.state));
+    for (size_t i = 0; i < sizeof log; i++)
+        CHECK(log[i] == 0xEE);
+    s = ind_start(x.list, x.len, 3, nothing, 3, log, 6, x.kept, full);
+    CHECK(s.number == IND_FINE);
+    CHECK(memcmp(x.kept, x.want, sizeof x.kept) == 0);
+
+    set_off(&x, 3, nothing);
+    take_run(g, &x, 70);
+    memcpy(log, x.log, sizeof log);
+    good_pick(g, &x, &x.state, pick);
+    pick[2] = 255;
+    pick[3] = 0;
+
+    /* step: 7, 8, 9, 6 by the log, 6 by the kept buffer, 10 and on */
+    s = ind_step(x.list, x.len, x.state, x.log, sizeof x.log, x.kept, full - 1,
+                 pick[0], pick[1]);
+    CHECK(s.number == IND_ROOM && same_state(&s.state, &x.state));
+    s = ind_step(x.list, x.len, x.state, x.log, sizeof x.log, NULL, 0,
+                 pick[0], pick[1]);
+    CHECK(s.number == IND_ROOM && same_state(&s.state, &x.state));
+    s = ind_step(x.list, x.len, x.state, NULL, 0, NULL, 0, pick[0], pick[1]);
+    CHECK(s.number == IND_ROOM && same_state(&s.state, &x.state));
+    s = ind_step(x.list, x.len, x.state, x.log, sizeof x.log, x.kept, full - 1,
+                 3, 4);
+    CHECK(s.number == IND_ROOM);
+    s = ind_step(x.list, x.len, x.state, x.log, sizeof x.log, x.kept, full - 1,
+                 pick[0], 4);
+    CHECK(s.number == IND_ROOM);
+    u = x.seen[0];
+    u.pri[2] = 1;
+    s = ind_step(x.list, x.len, u, x.log, sizeof x.log, x.kept, full - 1, 2,
+                 0);
+    CHECK(s.number == IND_ROOM);
+    s = ind_step(x.list, x.len, u, x.log, sizeof x.log, x.kept, full, 2, 0);
+    CHECK(s.number == IND_TURN);
+    u = x.state;
+    while (x.list[16 * (size_t)u.pos[0]] != IND_STOP)
+        u.pos[0]++;
+    s = ind_step(x.list, x.len, u, x.log, sizeof x.log, x.kept, full - 1, 0,
+                 0);
+    CHECK(s.number == IND_ROOM);
+    s = ind_step(x.list, x.len, u, x.log, sizeof x.log, x.kept, full, 0, 0);
+    CHECK(s.number == IND_ENDED);
+    u = x.state;
+    u.m = 4096;
+    s = ind_step(x.list, x.len, u, x.log, sizeof x.log, x.kept, full - 1,
+                 pick[0], pick[1]);
+    CHECK(s.number == IND_FULL);
+    u.m = 4097;
+    s = ind_step(x.list, x.len, u, x.log, sizeof x.log, NULL, 0, pick[0],
+                 pick[1]);
+    CHECK(s.number == IND_STATE);
+    s = ind_step(x.list, x.len - 1, u, x.log, sizeof x.log, NULL, 0, pick[0],
+                 pick[1]);
+    CHECK(s.number == IND_LIST);
+
+    /* run: only where a step is tried */
+    r = ind_run(x.list, x.len, x.state, x.log, sizeof x.log, x.kept, full - 1,
+                pick, 2, 1);
+    CHECK(r.number == IND_ROOM && r.steps == 0);
+    CHECK(same_state(&r.state, &x.state));
+    r = ind_run(x.list, x.len, x.state, x.log, sizeof x.log, NULL, 0, pick + 2,
+                2, 1);
+    CHECK(r.number == IND_ROOM && r.steps == 0);
+    r = ind_run(x.list, x.len, x.state, NULL, 0, NULL, 0, pick, 2, 0);
+    CHECK(r.number == IND_FINE && r.steps == 0);
+    CHECK(same_state(&r.state, &x.state));
+    r = ind_run(x.list, x.len, x.state, NULL, 0, x.kept, full - 1, NULL, 0,
+                SIZE_MAX);
+    CHECK(r.number == IND_FINE && r.steps == 0);
+    r = ind_run(x.list, x.len, x.state, NULL, 0, x.kept, full - 1, pick, 1, 0);
+    CHECK(r.number == IND_LENGTH && r.steps == 0);
+    r = ind_run(x.list, x.len, u, NULL, 0, x.kept, full - 1, pick, 2, 0);
+    CHECK(r.number == IND_STATE && r.steps == 0);
+    r = ind_run(x.list, x.len - 1, u, NULL, 0, x.kept, full - 1, pick, 2, 0);
+    CHECK(r.number == IND_LIST && r.steps == 0);
+    u.m = 4096;
+    r = ind_run(x.list, x.len, u, NULL, 0, x.kept, full - 1, pick, 2, 1);
+    CHECK(r.number == IND_FULL && r.steps == 0);
+
+    /* undo: 7, 8, 14, 6, 8 by the kept state, 15 */
+    for (uint16_t m = 1; m <= 70; m = (uint16_t)(m == 1 ? 64 : m + 1)) {
+        CHECK(goes_back(&x, m));
+        CHECK(undone(&x, &x.seen[m], 2 * (3u + m), full - 1, IND_ROOM));
+        CHECK(undone(&x, &x.seen[m], 2 * (3u + m) - 1, full - 1, IND_ROOM));
+        CHECK(undone(&x, &x.seen[m], 2 * (3u + m) - 1, full, IND_LOG));
+        s = ind_undo(x.list, x.len, x.seen[m], NULL, 0, NULL, 0);
+        CHECK(s.number == IND_ROOM && same_state(&s.state, &x.seen[m]));
+        s = ind_undo(x.list, x.len, x.seen[m], NULL, 0, x.kept, full);
+        CHECK(s.number == IND_LOG && same_state(&s.state, &x.seen[m]));
+    }
+    CHECK(undone(&x, &x.seen[0], sizeof x.log, full, IND_EMPTY));
+    CHECK(undone(&x, &x.seen[0], sizeof x.log, full - 1, IND_EMPTY));
+    s = ind_undo(x.list, x.len, x.seen[0], NULL, 0, NULL, 0);
+    CHECK(s.number == IND_EMPTY);
+    u = x.state;
+    u.n = 2;
+    CHECK(undone(&x, &u, sizeof x.log, full - 1, IND_STATE));
+    s = ind_undo(x.list, x.len - 1, u, NULL, 0, NULL, 0);
+    CHECK(s.number == IND_LIST);
+    CHECK(memcmp(x.kept, x.want, sizeof x.kept) == 0);
+    CHECK(memcmp(x.log, log, sizeof log) == 0);
+
+    /* the kept state is judged before the log's length, and after 6 */
+    kept_at(x.kept, 1)[183] = 1;
+    CHECK(undone(&x, &x.state, 2 * (3 + 70), full, IND_STATE));
+    CHECK(undone(&x, &x.state, 2 * (3 + 70) - 1, full, IND_STATE));
+    CHECK(undone(&x, &x.state, 2 * (3 + 70), full - 1, IND_ROOM));
+    CHECK(undone(&x, &x.seen[64], 2 * (3 + 64) - 1, full, IND_LOG));
+    CHECK(undone(&x, &x.seen[64], 2 * (3 + 64), full, IND_FINE));
+    x.log[2 * (3 + 64)] = 255;              /* and before a record replayed */
+    CHECK(undone(&x, &x.state, 2 * (3 + 70), full, IND_STATE));
+    s = ind_undo(x.list, x.len, x.state, NULL, 0, x.kept, full);
+    CHECK(s.number == IND_STATE && same_state(&s.state, &x.state));
+}
+
+/* Each byte of the kept place that is used changed, and each of one that is
+ * not. */
+static void test_kept_damage(struct rng *g)
+{
+    static struct panel x;
+    unsigned long followed = 0, refused_by = 0, not_replayed = 0;
+
+    for (uint8_t n = 1; n <= 8; n++) {
+        static const uint16_t steps[6] = { 64, 65, 66, 128, 129, 140 };
+        uint8_t b = (uint8_t)(n % 3 * 2 + 1);
+
+        set_up(&x, n);
+        set_off(&x, b, nothing);
+        take_run(g, &x, 200);
+        for (int k = 0; k < 6; k++) {
+            uint16_t m = steps[k];
+            size_t q = (m - 1u) / 64, loglen = 2 * ((size_t)n + m);
+            struct ind_state_answer a;
+
+            CHECK(goes_back(&x, m));
+            for (size_t at = 0; at < 3 * 184; at++) {
+                uint8_t was = x.kept[at];
+                size_t in = at % 184;
+                int used = at / 184 + 1 == q;
+
+                for (int j = 0; j < 4; j++) {
+                    static const uint8_t change[4] = { 1, 255, 2, 128 };
+                    struct ind_state_answer d;
+
+                    if (j > 1 && (!used || in < 128))
+                        break;
+                    x.kept[at] = (uint8_t)(j < 2 ? was + change[j]
+                                                 : was ^ change[j]);
+                    a = ind_undo(x.list, x.len, x.seen[m], x.log, loglen,
+                                 x.kept, IND_KEPT_BYTES);
+                    if (!used) {
+                        CHECK(a.number == IND_FINE
+                              && same_state(&a.state, &x.seen[m - 1]));
+                        x.kept[at] = was;
+                        continue;
+                    }
+                    d = defined_undo(x.list, x.len, x.seen[m], x.log, loglen,
+                                     x.kept, IND_KEPT_BYTES);
+                    CHECK(a.number == d.number
+                          && same_state(&a.state, &d.state));
+                    if (in < 128)           /* "the variables are free" */
+                        CHECK(a.number != IND_STATE);
+                    if (in >= 160)          /* zeros, n, B, m */
+                        CHECK(a.number == IND_STATE);
+                    if (in >= 128 && in < 160 && in % 16 >= 2u * n)
+                        CHECK(a.number == IND_STATE);
+                    followed += a.number == IND_FINE;
+                    refused_by += a.number == IND_STATE;
+                    not_replayed += a.number == IND_LOG;
+                    x.kept[at] = was;
+                }
+            }
+            /* all of what is not used at once */
+            for (size_t i = 0; i < sizeof x.kept; i++)
+                if (i / 184 + 1 != q)
+                    x.kept[i] ^= 0x5A;
+            CHECK(goes_back(&x, m));
+            memcpy(x.kept, x.want, sizeof x.kept);
+        }
+    }
+    CHECK(followed > 3000 && refused_by > 5000 && not_replayed > 100);
+
+    /* n, B and m by themselves, each in a state that is otherwise sound */
+    set_up(&x, 3);
+    set_off(&x, 5, nothing);
+    take_run(g, &x, 330);
+    for (int i = 0; i < 10; i++) {
+        uint8_t *p = kept_at(x.kept, 5);
+        struct ind_state s = x.seen[320];
+
+        switch (i) {
+        case 0:
+            s.b = 4;                        /* all that B allows */
+            for (int j = 0; j < 3; j++)
+                s.pri[j] = 0;
+            break;
+        case 1:
+            s.b = 6;
+            break;
+        case 2:
+            s.m = 319;
+            break;
+        case 3:
+            s.m = 321;
+            break;
+        case 4:
+            s = x.seen[256];                /* the place before */
+            break;
+        case 5:
+            s.m = 384;
+            break;
+        case 6:
+            s.m = 64;                       /* the low byte alone is right */
+            break;
+        case 7:
+            s.m = 320 + 256;
+            break;
+        case 8:
+            s.m = 0;
+            break;
+        default:
+            s.m = 4096;
+            break;
+        }
+        encoded(&s, p);
+        CHECK(undone(&x, &x.state, sizeof x.log, IND_KEPT_BYTES, IND_STATE));
+        CHECK(undone(&x, &x.seen[321], 2 * (3 + 321), IND_KEPT_BYTES,
+                     IND_STATE));
+        CHECK(undone(&x, &x.seen[320], 2 * (3 + 320), IND_KEPT_BYTES,
+                     IND_FINE));
+        memcpy(x.kept, x.want, sizeof x.kept);
+    }
+    CHECK(goes_back(&x, 330));
+
+    /* B of the state given: the kept state's has to be the same */
+    {
+        struct ind_state s = x.state;
+
+        s.b = 6;
+        CHECK(undone(&x, &s, sizeof x.log, IND_KEPT_BYTES, IND_STATE));
+        kept_at(x.kept, 5)[177] = 6;
+        CHECK(undone(&x, &s, sizeof x.log, IND_KEPT_BYTES, IND_FINE));
+        CHECK(undone(&x, &x.state, sizeof x.log, IND_KEPT_BYTES, IND_STATE));
+        s = x.seen[64];                     /* q = 0: there is none */
+        s.b = 6;
+        CHECK(undone(&x, &s, sizeof x.log, IND_KEPT_BYTES, IND_FINE));
+    }
+}
+
+/* "A kept state that passes is followed, whatever the log says of the steps
+ * before it". */
+static void test_kept_followed(struct rng *g)
+{
+    static struct panel x, y;
+    struct ind_state_answer a;
+    struct ind_state s;
+
+    for (uint8_t n = 1; n <= 8; n++) {
+        set_up(&x, n);
+        set_off(&x, 7, nothing);
+        take_run(g, &x, 140);
+        set_up(&y, n);
+        set_off(&y, 7, nothing);
+        take_run(g, &y, 140);
+
+        /* another run's: at 129 it is answered as it is */
+        memcpy(kept_at(x.kept, 2), kept_at(y.kept, 2), 184);
+        s = x.seen[129];
+        a = ind_undo(x.list, x.len, s, x.log, sizeof x.log, x.kept,
+                     sizeof x.kept);
+        CHECK(a.number == IND_FINE && same_state(&a.state, &y.seen[128]));
+        /* and with that run's records behind it, it is that run */
+        memcpy(x.log + 2 * (n + 128u), y.log + 2 * (n + 128u), 24);
+        for (uint16_t m = 130; m <= 140; m++) {
+            s = x.seen[129];
+            s.m = m;
+            a = ind_undo(x.list, x.len, s, x.log, sizeof x.log, x.kept,
+                         sizeof x.kept);
+            CHECK(a.number == IND_FINE
+                  && same_state(&a.state, &y.seen[m - 1]));
+            CHECK(undone(&x, &s, sizeof x.log, sizeof x.kept, IND_FINE));
+        }
+
+        /* any sound one: variables of any bytes, priorities from the lowest
+         * on */
+        s = y.seen[128];
+        for (int v = 0; v < 32; v++)
+            s.var[v] = draw(g) | 0x01010101;
+        for (int i = 0; i < n; i++)
+            s.pri[i] = (int16_t)(i == n - 1 ? 7 : -i);
+        encoded(&s, kept_at(x.kept, 2));
+        a = ind_undo(x.list, x.len, x.seen[129], x.log, sizeof x.log, x.kept,
+                     sizeof x.kept);
+        CHECK(a.number == IND_FINE && same_state(&a.state, &s));
+        s.pri[0] = -n;
+        encoded(&s, kept_at(x.kept, 2));
+        CHECK(undone(&x, &x.seen[129], sizeof x.log, sizeof x.kept,
+                     IND_STATE));
+    }
+}
+
+/* Damage to the log: before record n+64q it is not noticed, from there to
+ * record n+m-2 it is, and behind that not. */
+static void test_kept_log(struct rng *g)
+{
+    static struct panel x;
+    static const uint16_t steps[] = { 1, 2, 63, 64, 65, 66, 100, 128, 129, 130,
+                                      192, 193, 200 };
+
+    for (uint8_t n = 1; n <= 8; n++) {
+        set_up(&x, n);
+        set_off(&x, 4, nothing);
+        take_run(g, &x, 200);
+        for (size_t k = 0; k < sizeof steps / sizeof steps[0]; k++) {
+            uint16_t m = steps[k];
+            size_t from = (m - 1u) / 64 == 0 ? 0 : n + (m - 1u) / 64 * 64;
+
+            for (size_t i = 0; i < (size_t)n + m; i++) {
+                int noticed = i >= from && i < n + m - 1u;
+                uint8_t was[2];
+
+                memcpy(was, x.log + 2 * i, 2);
+                x.log[2 * i] = (uint8_t)(i % 2 == 0 ? 255 : n);
+                CHECK(undone(&x, &x.seen[m], 2 * ((size_t)n + m),
+                             IND_KEPT_BYTES, noticed ? IND_LOG : IND_FINE));
+                x.log[2 * i] = was[0];
+                x.log[2 * i + 1] = 5;                   /* above B */
+                CHECK(undone(&x, &x.seen[m], 2 * ((size_t)n + m),
+                             IND_KEPT_BYTES, noticed ? IND_LOG : IND_FINE));
+                memcpy(x.log + 2 * i, was, 2);
+            }
+            /* all that is not replayed at once */
+            {
+                uint8_t was[2 * 208];
+
+                memcpy(was, x.log, sizeof was);
+                for (size_t i = 0; i < 200; i++)
+                    if (i < from || i >= n + m - 1u)
+                        x.log[2 * i] = 255;
+                CHECK(goes_back(&x, m));
+                memcpy(x.log, was, sizeof was);
+            }
+            CHECK(undone(&x, &x.seen[m], 2 * ((size_t)n + m) - 1,
+                         IND_KEPT_BYTES, IND_LOG));
+        }
+    }
+}
+
+/* Undo against its definition, on kept buffers, logs and states damaged at
+ * random. */
+static void test_kept_random(struct rng *g, int rounds)
+{
+    static struct panel x;
+    static uint8_t log[sizeof x.log];
+    unsigned long numbers[17] = { 0 };
+
+    for (int round = 0; round < rounds; round++) {
+        uint8_t n = (uint8_t)(1 + round % 8);
+        size_t most = 66 + below(g, 200);
+
+        set_up(&x, n);
+        set_off(&x, (uint8_t)below(g, 5), nothing);
+        take_run(g, &x, most);
+        memcpy(log, x.log, sizeof log);
+        for (int i = 0; i < 60; i++) {
+            uint16_t m = (uint16_t)below(g, (uint32_t)most + 1);
+            size_t loglen, keptlen = IND_KEPT_BYTES;
+            struct ind_state_answer a, b;
+            struct ind_state s = x.seen[m];
+            size_t q = m == 0 ? 0 : (m - 1u) / 64;
+
+            loglen = 2 * ((size_t)n + m) + below(g, 3);
+            if (chance(g, 8))
+                loglen -= 1 + below(g, 3);
+            if (chance(g, 8))
+                keptlen = below(g, IND_KEPT_BYTES);
+            if (chance(g, 40)) {
+                size_t at = below(g, 184 * 4);
+
+                x.kept[at] = (uint8_t)draw(g);
+            }
+            if (q > 0 && chance(g, 50)) {
+                size_t at = 184 * (q - 1) + below(g, 184);
+
+                x.kept[at] ^= (uint8_t)(1u << below(g, 8));
+            }
+            if (q > 0 && chance(g, 10))     /* another place's */
+                memcpy(kept_at(x.kept, q), kept_at(x.want, 1 + below(g, 3)),
+                       184);
+            if (chance(g, 30)) {
+                size_t at = below(g, (uint32_t)(2 * ((size_t)n + m)) + 1);
+
+                x.log[at] = (uint8_t)(chance(g, 50) ? below(g, 9) : draw(g));
+            }
+            if (chance(g, 10))
+                s.b = (uint8_t)(s.b + 1);
+            if (chance(g, 10))
+                s.m = (uint16_t)below(g, 300);
+            if (chance(g, 5))
+                s.pri[below(g, 8)] = (int16_t)(below(g, 9) - 7);
+            a = ind_undo(x.list, x.len, s, x.log, loglen, x.kept, keptlen);
+            b = defined_undo(x.list, x.len, s, x.log, loglen, x.kept, keptlen);
+            CHECK(a.number == b.number && same_state(&a.state, &b.state));
+            numbers[a.number]++;
+            memcpy(x.log, log, sizeof log);
+            memcpy(x.kept, x.want, sizeof x.kept);
+        }
+    }
+    CHECK(numbers[0] > 100 && numbers[6] > 100 && numbers[8] > 100
+          && numbers[14] > 10 && numbers[15] > 100);
+}
+
+/* The trace over multiples of 64, there and back: the lines are those of the
+ * states seen. */
+static void test_kept_trace(struct rng *g)
+{
+    static struct panel x;
+    static struct sequence p;
+    static uint8_t picks[8192], out[200000];
+    static char want[200000];
+
+    for (uint8_t n = 1; n <= 8; n = (uint8_t)(n + 1)) {
+        uint8_t start[9] = { 3 };
+        size_t count = 0, len = 0, to = 0;
+        int back = 0;
+
+        wheels(&p, n);
+        set_up(&x, n);
+        set_off(&x, 3, nothing);
+        while (count < 4096) {
+            struct ind_lights_answer l = ind_lights(x.list, x.len, x.state);
+
+            len += (size_t)sprintf(want + len, "%d %d %d", x.state.m, l.ready,
+                                   l.in_turn);
+            for (uint8_t i = 0; i < n; i++)
+                len += (size_t)sprintf(want + len, " %d", x.state.pri[i]);
+            len += (size_t)sprintf(want + len, "\n");
+            if (count == 4095)
+                break;
+            if (x.state.m == to) {          /* turn round */
+                back = x.state.m > 0 && chance(g, 50);
+                to = back ? x.state.m - 1 - below(g, x.state.m)
+                          : x.state.m + 1 + below(g, 150u);
+            }
+            if (back) {
+                picks[2 * count] = 255;
+                picks[2 * count + 1] = 0;
+                take_undo(&x, 0);
+            } else {
+                good_pick(g, &x, &x.state, picks + 2 * count);
+                x.state = ind_step(x.list, x.len, x.state, x.log,
+                                   sizeof x.log, x.kept, sizeof x.kept,
+                                   picks[2 * count],
+                                   picks[2 * count + 1]).state;
+                reached(&x);
+            }
+            count++;
+        }
+        len += (size_t)sprintf(want + len, "end 0\n");
+        CHECK(ind_trace(p.bytes, p.len, start, n + 1u, picks, 2 * count, out,
+                        sizeof out) == len);
+        CHECK(len < sizeof out && memcmp(out, want, len) == 0);
+    }
+}
+
 int main(void)
 {
-    struct rng g = { 1 }, h = { 2 };
+    struct rng g = { 1 }, h = { 2 }, k = { 3 };
 
+    memset(kept, 0xC3, sizeof kept);
     test_check_cases();
     test_p9_p10();
     test_dryer();
@@ -1643,6 +2887,17 @@ int main(void)
     test_shape(6);
     test_random(&g, 1500);
     test_random_lights(&h, 1500);
+    test_kept_bytes();
+    test_deep(&k);
+    test_another_way(&k);
+    test_histories(&k, 60);
+    test_who_keeps(&k);
+    test_kept_room(&k);
+    test_kept_damage(&k);
+    test_kept_followed(&k);
+    test_kept_log(&k);
+    test_kept_random(&k, 100);
+    test_kept_trace(&k);
     printf("%lu checks, %lu failed\n", checks, failures);
     return failures != 0;
 }

@@ -19,6 +19,7 @@ static const uint8_t dryer[] = {
 static uint8_t list[PRESS_LIST_BYTES];
 static size_t list_len;
 static uint8_t steps_log[PRESS_LOG_BYTES];
+static uint8_t kept[PRESS_KEPT_BYTES];
 
 static void say(press_told told)
 {
@@ -55,7 +56,8 @@ int main(void)
     list_len = (size_t)16 * built.count;
 
     const uint8_t resets[] = {0, 0};
-    const press_outcome started = press_start(list, list_len, 0, resets, sizeof resets, steps_log, sizeof steps_log);
+    const press_outcome started = press_start(list, list_len, 0, resets, sizeof resets, steps_log, sizeof steps_log, kept,
+                                              sizeof kept);
     if (started.number != 0) {
         printf("start refused: %u\n", (unsigned)started.number);
         return 1;
@@ -70,13 +72,14 @@ int main(void)
             return 0;
         unsigned number;
         if (station == 255 && reset == 0) {
-            const press_outcome undone = press_undo(state, list, list_len, steps_log, sizeof steps_log);
+            const press_outcome undone = press_undo(state, list, list_len, steps_log, sizeof steps_log, kept,
+                                                    sizeof kept);
             number = undone.number;
             state = undone.state; /* refused: the state given */
         } else {
             /* refused: the state is still the one lent */
-            number = press_advance(&state, list, list_len, steps_log, sizeof steps_log, (uint8_t)station,
-                                   (uint8_t)reset);
+            number = press_advance(&state, list, list_len, steps_log, sizeof steps_log, kept, sizeof kept,
+                                   (uint8_t)station, (uint8_t)reset);
         }
         show(number, &state);
     }

@@ -5,9 +5,13 @@
  * pointer.
  *
  * Lending. Bytes are lent as a pointer and their number. No pointer is null, also where the number is 0. What a call
- * writes to (list in press_build; log in press_start, press_step, press_advance and press_run; state in press_advance)
- * overlaps nothing else that is lent to the same call. The bytes and the fields may hold any values: a list or a state
- * that is not sound is refused.
+ * writes to (list in press_build; log in press_start; log and kept in press_step, press_advance and press_run; state in
+ * press_advance) overlaps nothing else that is lent to the same call. The bytes and the fields may hold any values: a
+ * list or a state that is not sound is refused.
+ *
+ * A run is kept in two buffers, which it has to itself from its start on: the log, with two bytes a step, and beside it
+ * kept, with whole states, from which press_undo goes back without replaying every step. Lend both whole, and let only
+ * these calls write them; docs/KEPT.md has the bytes of a kept state. Neither has to be cleared before.
  *
  * Refusals. Each answer has a number: 0, or that of the refusal, named below; press_readiness gives 16 and 11 as its
  * answer too. A refused call leaves all that it was lent as it was; where it answers a state, it is the state given, or
@@ -30,9 +34,10 @@ enum {
     PRESS_COUNT = 3,      /* check, build: STATION records not 1 to 8 */
     PRESS_SHAPE = 4,      /* check, build: a record after which no continuation is well shaped, or an unfinished file */
     PRESS_DEPTH = 5,      /* check, build: a record that is the seventeenth open */
-    PRESS_ROOM = 6,       /* build: the list buffer is short; start, step, advance, run: the log is */
+    PRESS_ROOM = 6,       /* build: the list buffer is short; start, step, advance, run: the log or kept is; undo: kept is */
     PRESS_LIST = 7,       /* start, step, advance, run, undo, readiness, lights: the list is not sound */
-    PRESS_STATE = 8,      /* step, advance, run, undo, readiness, lights: the state is not sound against the list */
+    PRESS_STATE = 8,      /* step, advance, run, undo, readiness, lights: the state is not sound against the list; undo:
+                             nor is the kept state used, or it has another m or b */
     PRESS_FULL = 9,       /* step, advance, run: 4,096 steps stand */
     PRESS_COMPONENT = 10, /* step, advance, run, readiness: no such station */
     PRESS_NOT_READY = 11, /* step, advance, run, readiness: the station is waiting */
@@ -47,7 +52,8 @@ enum {
 enum {
     PRESS_FILE_BYTES = 8192,  /* a written sequence: 1,024 records of 8 */
     PRESS_LIST_BYTES = 16512, /* a list: 1,032 records of 16 */
-    PRESS_LOG_BYTES = 8208    /* a log: 8 start records and 4,096 steps, 2 each */
+    PRESS_LOG_BYTES = 8208,   /* a log: 8 start records and 4,096 steps, 2 each */
+    PRESS_KEPT_BYTES = 11776  /* the kept states: 64 of 184; fewer are refused with PRESS_ROOM */
 };
 
 /* ---- a written sequence and its list */
@@ -115,43 +121,48 @@ typedef struct press_ran {
 /*
  * Starts a run, with a reset for each station and b the largest reset from then on. It answers the state with no steps,
  * the initial part run and the priorities set to the resets, and writes the start records to the front of the log, two
- * bytes for each station, its number and its reset; the bytes after them stay. Refused (PRESS_LIST, PRESS_RESET,
- * PRESS_ROOM, in this order), it answers zeros and leaves the log as it was.
+ * bytes for each station, its number and its reset; the bytes after them stay. Of kept it looks at the length alone.
+ * Refused (PRESS_LIST, PRESS_RESET, PRESS_ROOM for the log, PRESS_ROOM for kept, in this order), it answers zeros and
+ * leaves the log as it was.
  */
 press_outcome press_start(const uint8_t *list, size_t list_len, uint8_t b, const uint8_t *resets, size_t resets_len,
-                          uint8_t *log, size_t log_len);
+                          uint8_t *log, size_t log_len, const uint8_t *kept, size_t kept_len);
 
 /*
  * One step, by the pick of a station and its reset. It answers the state after the step and writes the pick, its two
- * bytes, to the log at byte 2 * (n + m) of the state given; the other bytes stay. Refused (7, 8, 9, 6, 10, 16, 11, 12,
- * 13, in this order), it answers the state given and leaves the log as it was.
+ * bytes, to the log at byte 2 * (n + m) of the state given; the other bytes stay. Where the steps then standing are a
+ * multiple of 64 it writes the state answered to its 184 bytes of kept, and else nothing of it. Refused (7, 8, 9, 6 for
+ * the log, 6 for kept, 10, 16, 11, 12, 13, in this order), it answers the state given and leaves both as they were.
  */
 press_outcome press_step(press_state state, const uint8_t *list, size_t list_len, uint8_t *log, size_t log_len,
-                         uint8_t station, uint8_t reset);
+                         uint8_t *kept, size_t kept_len, uint8_t station, uint8_t reset);
 
 /*
  * The same step on a state that is lent. It answers 0, leaves the state after the step in the place of the one lent and
- * writes the pick to the log; or it answers press_step's refusal and leaves the state and the log as they were.
+ * writes to the log and to kept as press_step does; or it answers press_step's refusal and leaves all three as they
+ * were.
  */
 uint8_t press_advance(press_state *state, const uint8_t *list, size_t list_len, uint8_t *log, size_t log_len,
-                      uint8_t station, uint8_t reset);
+                      uint8_t *kept, size_t kept_len, uint8_t station, uint8_t reset);
 
 /*
  * Steps by the picks, two bytes each, a station and its reset, until the first refusal, the end of the picks or the
- * most-steps number. It answers 0 or the refusal, the state reached and the steps taken, whose picks it writes to the
- * log. A refused step writes nothing, and those before it stand. PRESS_LENGTH, PRESS_LIST and PRESS_STATE, in this
- * order, are tested once, before any step: refused so, it answers the state given and 0 steps, and leaves the log as it
- * was.
+ * most-steps number. It answers 0 or the refusal, the state reached and the steps taken; each of them writes to the log
+ * and to kept as press_step does. A refused step writes nothing, and those before it stand. PRESS_LENGTH, PRESS_LIST and
+ * PRESS_STATE, in this order, are tested once, before any step: refused so, it answers the state given and 0 steps, and
+ * leaves both as they were. Where no step is asked for, the buffers' lengths are not judged.
  */
 press_ran press_run(press_state state, const uint8_t *list, size_t list_len, uint8_t *log, size_t log_len,
-                    const uint8_t *picks, size_t picks_len, size_t most);
+                    uint8_t *kept, size_t kept_len, const uint8_t *picks, size_t picks_len, size_t most);
 
 /*
- * Takes the last step back: answers the state before it, reached again from the log. It writes nothing; the next step
- * writes over the record withdrawn. Refused (PRESS_LIST, PRESS_STATE, PRESS_EMPTY, PRESS_LOG, in this order), it
- * answers the state given.
+ * Takes the last step back: answers the state before it, reached again by the log from the kept state nearest below, or
+ * from the log's start records below 64 steps; at most 63 steps are replayed, however many stand. It writes nothing; the
+ * next step writes over the record withdrawn. Refused (PRESS_LIST, PRESS_STATE, PRESS_EMPTY, PRESS_ROOM for kept,
+ * PRESS_STATE for the kept state used, PRESS_LOG, in this order), it answers the state given.
  */
-press_outcome press_undo(press_state state, const uint8_t *list, size_t list_len, const uint8_t *log, size_t log_len);
+press_outcome press_undo(press_state state, const uint8_t *list, size_t list_len, const uint8_t *log, size_t log_len,
+                         const uint8_t *kept, size_t kept_len);
 
 /* ---- the stations */
 

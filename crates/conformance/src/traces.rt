@@ -25,17 +25,18 @@ pub(crate) fn case(file: i32) -> bool {
 fn answer(program: &[u8], starts: &[u8], picks: &[u8]) -> bool {
     let mut list = [0u8; sizes::LIST_BYTES];
     let mut log = [0u8; sizes::LOG_BYTES];
-    let first = tracing::open(program, starts, &mut list, &mut log);
-    answer_from(first, &list, &mut log, picks)
+    let mut kept = [0u8; sizes::KEPT_BYTES];
+    let first = tracing::open(program, starts, &mut list, &mut log, &kept);
+    answer_from(first, &list, &mut log, &mut kept, picks)
 }
 
 // The same, from where a trace begins.
-fn answer_from(first: Tracer, list: &[u8], log: &mut [u8], picks: &[u8]) -> bool {
+fn answer_from(first: Tracer, list: &[u8], log: &mut [u8], kept: &mut [u8], picks: &[u8]) -> bool {
     let mut tracer = first;
     let mut bytes: u64 = 0;
     let mut h = NONE;
     while !tracer.done() {
-        let printed = tracer.next(list, log, picks);
+        let printed = tracer.next(list, log, kept, picks);
         let text = printed.text;
         bytes = std::num::wrapping_add_u64(bytes, text.len as u64);
         h = after_text(h, text);

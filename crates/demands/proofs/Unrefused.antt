@@ -10,7 +10,7 @@ use Rattle.rules.specs.Records.{Pick, pick-at}
 use Rattle.rules.specs.State.{State}
 use Rattle.rules.specs.Lent.{Lent}
 use Rattle.rules.specs.Start.{start}
-use Rattle.rules.specs.Step.{Stepped, step}
+use Rattle.rules.specs.Step.{with-step, Stepped, step}
 use Rattle.rules.specs.Run.{Ran, run}
 use Rattle.rules.specs.Calls.{Seven, ruled}
 use Rattle.laws.proofs.Choice.{by-test}
@@ -44,7 +44,7 @@ module _ (bench : Seven) (two : Demand2 bench) where
       let y = step-does list s lent p held z in
       let number : bench .step list s lent p .number ≡ step list s lent p .number = zero ∙ sym z in
       let state = does-only (x .0) (y .0) in
-      let left = x .1 ∙ sym (y .1) in
+      let left = x .1 ∙ ap (with-step lent s p) state ∙ sym (y .1) in
       λ i. record { number = number i; state = state i; lent = left i }
 
   step-own : (list : List ℕ) (s : State) (lent : Lent) (p : Pick) → Held s → bench .step list s lent p .number ≡ 0

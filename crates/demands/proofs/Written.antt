@@ -5,6 +5,7 @@ use Prim.Native.Nat.{ℕ, _*_, _<_}
 use native.Mathlib.Omega.{arith}
 use borrow.Author.Tests.{eq-eqb, le-ltb, le-leb}
 use lib.ListN.{length, getD}
+use Rattle.rules.specs.Names.{max-kept, kept-length}
 use Rattle.rules.specs.Records.{Pick}
 use Rattle.rules.specs.Trees.{stations-of, initial-part}
 use Rattle.rules.specs.List.{stations}
@@ -35,7 +36,7 @@ active-within (parallel-rule l d) = l
 
 module _ (file : List ℕ) (bytes : (i : ℕ) → getD file i 0 < 256) (accepted : Accepted file) where
   start-there : StartThere ruled file
-  start-there b resets lent count within room =
+  start-there b resets lent count within room kept-room =
       let n : stations (built file) ≡ length (stations-of file) = built-parts file bytes accepted .stations-are in
       let right = each-all _ (length resets) (λ j l. le-leb (getD resets j 0) b (within j (omega arith))) in
       start-order (built file) b resets lent
@@ -45,6 +46,7 @@ module _ (file : List ℕ) (bytes : (i : ℕ) → getD file i 0 < 256) (accepted
         eq-eqb (length resets) (length (stations-of file)) count,
         right,
         le-ltb (length (lent .log)) (2 * length (stations-of file)) room,
+        le-ltb (length (lent .kept)) (kept-length * max-kept) kept-room,
       )
 
   module _ (s : State) (lent : Lent) (p : Pick) (can : CanStep (built file) s lent) where

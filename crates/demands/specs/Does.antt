@@ -15,10 +15,10 @@ use Rattle.rules.specs.List.{stations, initials}
 use Rattle.rules.specs.State.{State, position, priority}
 use Rattle.rules.specs.Lent.{Lent}
 use Rattle.rules.specs.Start.{initial-run, with-starts}
-use Rattle.rules.specs.Step.{with-pick}
+use Rattle.rules.specs.Step.{with-step}
 use Rattle.rules.specs.Ready.{next-step, ready}
 use Rattle.rules.specs.Move.{step-vars, step-position}
-use Rattle.rules.specs.Undo.{replayed}
+use Rattle.rules.specs.Undo.{replayed-near}
 use Rattle.rules.specs.Calls.{Seven}
 use Rattle.laws.specs.Passed.{CanStart}
 use Rattle.reading.specs.Accepted.{Accepted}
@@ -59,7 +59,8 @@ StartBegins bench =
     × (bench .start list b resets lent .lent ≡ with-starts lent resets)
 
 -- STEP: the pick satisfies FAIR's SCH, judged before the step. "SKIP, SET, one test, and AWAIT with its body are one step each": the
--- variables and the station's position after its next step; no other station moves. The priorities satisfy UPDATE, and all else stays but m
+-- variables and the station's position after its next step; no other station moves. The priorities satisfy UPDATE, and all else stays but m. The
+-- step's record is written to the log, and the state that it answers to its kept place, where it has one
 pub record Does (list : List ℕ) (s : State) (p : Pick) (t : State) : Type 0 where
   pub held : Held t
   pub chosen : Sch (s .n) (ready list s) (priority s) (p .station)
@@ -76,10 +77,11 @@ abbrev pub StepDoes : Seven → Type 0
 StepDoes bench =
     (list : List ℕ) (s : State) (lent : Lent) (p : Pick) → Held s → bench .step list s lent p .number ≡ 0
     → Does list s p (bench .step list s lent p .state)
-    × (bench .step list s lent p .lent ≡ with-pick lent s p)
+    × (bench .step list s lent p .lent ≡ with-step lent s p (bench .step list s lent p .state))
 
--- UNDO: "the state reached by replaying the first n+m-1 records"; whatever state is given, it depends on no more of it than B and m
+-- UNDO: "the state reached by replaying the first n+m-1 records", from the kept state nearest below where there is one; whatever state is given,
+-- it depends on no more of it than B and m
 abbrev pub UndoReplays : Seven → Type 0
 UndoReplays bench =
     (list : List ℕ) (s : State) (lent : Lent) → bench .undo list s lent .number ≡ 0
-    → bench .undo list s lent .state ≡ replayed list (lent .log) (s .b) (s .m) .state
+    → bench .undo list s lent .state ≡ replayed-near list lent (s .b) (s .m) .state

@@ -16,9 +16,10 @@ use Rattle.rules.specs.Build.{list-records}
 use Rattle.rules.specs.List.{stations, sound-list}
 use Rattle.rules.specs.State.{State, zeros, sound-state}
 use Rattle.rules.specs.Lent.{Lent}
+use Rattle.rules.specs.Kept.{kept-right}
 use Rattle.rules.specs.Start.{wrong-resets}
 use Rattle.rules.specs.Ready.{ended, waiting, lowest}
-use Rattle.rules.specs.Undo.{starts-right, replayed}
+use Rattle.rules.specs.Undo.{starts-right, nearest, replayed-near}
 use Rattle.rules.specs.Lights.{dark}
 use Rattle.rules.specs.Calls.{Seven}
 use Rattle.grammar.specs.Grammar.{Sequence}
@@ -57,7 +58,7 @@ BuildOrder bench =
     else bench .check file .number))
     × (bench .build file buffer .place ≡ bench .check file .place)
 
--- start: 7, 13, 6
+-- start: 7, 13, 6, 6; the kept states take 64 times 184 bytes
 abbrev pub StartOrder : Seven → Type 0
 StartOrder bench =
     (list : List ℕ) (b : ℕ) (resets : List ℕ) (lent : Lent)
@@ -65,9 +66,10 @@ StartOrder bench =
     ≡ (if not (sound-list list) then 7
     else if wrong-resets list b resets then 13
     else if ltb (length (lent .log)) (2 * stations list) then 6
+    else if ltb (length (lent .kept)) 11776 then 6
     else 0)
 
--- step: 7, 8, 9, 6, 10, 16, 11, 12, 13
+-- step: 7, 8, 9, 6, 6, 10, 16, 11, 12, 13
 abbrev pub StepOrder : Seven → Type 0
 StepOrder bench =
     (list : List ℕ) (s : State) (lent : Lent) (p : Pick)
@@ -76,6 +78,7 @@ StepOrder bench =
     else if not (sound-state list s) then 8
     else if eqb (s .m) 4096 then 9
     else if ltb (length (lent .log)) (2 * (s .n + s .m + 1)) then 6
+    else if ltb (length (lent .kept)) 11776 then 6
     else if leb (s .n) (p .station) then 10
     else if ended list s (p .station) then 16
     else if waiting list s (p .station) then 11
@@ -91,7 +94,7 @@ before-steps list s picks =
     else if not (sound-state list s) then 8
     else 0
 
--- undo: 7, 8, 14, 15
+-- undo: 7, 8, 14, 6, 8, 15; the second 8 where a kept state is used, and the start records judged where none is
 abbrev pub UndoOrder : Seven → Type 0
 UndoOrder bench =
     (list : List ℕ) (s : State) (lent : Lent)
@@ -99,9 +102,11 @@ UndoOrder bench =
     ≡ (if not (sound-list list) then 7
     else if not (sound-state list s) then 8
     else if eqb (s .m) 0 then 14
+    else if ltb (length (lent .kept)) 11776 then 6
+    else if not (eqb (nearest (s .m)) 0) && not (kept-right list (lent .kept) (s .b) (nearest (s .m))) then 8
     else if ltb (length (lent .log)) (2 * (s .n + s .m)) then 15
-    else if not (starts-right list (s .b) (lent .log)) then 15
-    else if not (eqb (replayed list (lent .log) (s .b) (s .m) .number) 0) then 15
+    else if eqb (nearest (s .m)) 0 && not (starts-right list (s .b) (lent .log)) then 15
+    else if not (eqb (replayed-near list lent (s .b) (s .m) .number) 0) then 15
     else 0)
 
 -- lights: 7, 8

@@ -19,7 +19,7 @@ use Rattle.reading.specs.Reading.{flat-file, Sets, Stations}
 use Rattle.reading.specs.Accepted.{Reads}
 use Rattle.built.specs.Built.{built, Sound}
 use Rattle.built.specs.Targets.{Spot, Has, Targets, Closing}
-use Rattle.laws.specs.Passed.{CanStep}
+use Rattle.laws.specs.Passed.{KeptRoom, CanStep}
 use Rattle.language.specs.Language.{Program, component, Moves, Enabled}
 use Rattle.language.specs.Claims.{StopEnds, InitWhole, BodyRuns, SoundStanding, programs, ReadyEnabled, StationMoves}
 use Rattle.demands.specs.Computation.{Starts, Computation}
@@ -37,12 +37,12 @@ pub record Laid (file : List ℕ) : Type 0 where
       → Targets (list-records file) j p x
   pub closing : (x : Statements) (w : Spot) → Closing x w
 
--- with a reset of at most B for each station, and room in the log, its list is started
+-- with a reset of at most B for each station, and room in the log and for the kept states, its list is started
 abbrev pub StartThere : Seven → List ℕ → Type 0
 StartThere bench file =
     (b : ℕ) (resets : List ℕ) (lent : Lent) → length resets ≡ length (stations-of file)
     → ((j : ℕ) → j < length (stations-of file) → getD resets j 0 ≤ b)
-    → 2 * length (stations-of file) ≤ length (lent .log) → bench .start (built file) b resets lent .number ≡ 0
+    → 2 * length (stations-of file) ≤ length (lent .log) → KeptRoom lent → bench .start (built file) b resets lent .number ≡ 0
 
 -- and then the initial part has been run from zeros, the stations are whole, and the priorities are the resets
 abbrev pub FileStarts : Seven → List ℕ → Type 0

@@ -2,22 +2,23 @@
 use mathlib.Core.Path.{_≡_}
 use mathlib.Core.Bool.{true}
 use mathlib.Core.List.{List}
-use Prim.Native.Nat.{ℕ, zero, suc, _+_, _-_, _≤_}
+use Prim.Native.Nat.{ℕ, zero, suc, _+_, _*_, _≤_}
 use native.Mathlib.Omega.{arith}
 use borrow.Author.Tests.{eqb-true, leb-true}
 use lib.Dec.{eqb}
-use Rattle.rules.specs.Words.{values}
-use Rattle.rules.specs.Names.{max-steps}
+use Rattle.rules.specs.Names.{max-steps, kept-every}
 use Rattle.rules.specs.Records.{Pick, pick-at}
 use Rattle.rules.specs.List.{stations, sound-list}
 use Rattle.rules.specs.State.{State, sound-state}
 use Rattle.rules.specs.Start.{started}
 use Rattle.rules.specs.Step.{picked, stepped}
-use Rattle.rules.specs.Undo.{replay, starts-right, replayed, undo}
-use Rattle.laws.specs.Passed.{Known}
+use Rattle.rules.specs.Lent.{Lent}
+use Rattle.rules.specs.Undo.{replay, starts-right, restarted, nearest, nearest-state, replayed-near, undo}
+use Rattle.laws.specs.Passed.{Known, CanReplay}
 use Rattle.laws.proofs.Choice.{by-test, both-right}
 use Rattle.laws.proofs.Places.{each-at, length-values, getD-values}
 use Rattle.laws.proofs.Sound.{sound-means}
+use Rattle.laws.proofs.Passed.{kept-passed}
 use Rattle.laws.proofs.Answers.{picked-state, undo-can, undo-state, undo-refused}
 use Rattle.fair.specs.Sound.{UndoSound}
 use Rattle.fair.proofs.Begun.{started-sound}
@@ -45,23 +46,35 @@ replay-sound list log i (suc count) s known m =
 
 -- start records in their places, with resets of at most b, give a sound state
 pub restarted-sound : (list log : List ℕ) (b : ℕ) → sound-list list ≡ true → starts-right list b log ≡ true
-    → sound-state list (started list b (values (λ j. pick-at log j .reset) (stations list))) ≡ true
-unfolding starts-right
+    → sound-state list (restarted list log b) ≡ true
+unfolding starts-right restarted
 restarted-sound list log b of-list right =
     sound-means list _ .1
     (started-sound list b _ of-list (length-values _ (stations list))
     (λ j l. rw (getD-values (λ j. pick-at log j .reset) (stations list) j 0 l)
     (leb-true (pick-at log j .reset) b (both-right (eqb (pick-at log j .station) j) _ (each-at _ (stations list) right j l)))))
 
+-- where an undo's replay begins: at a sound state, with as many steps as its kept place says
+pub nearest-sound : (list : List ℕ) (s : State) (lent : Lent) → CanReplay list s lent
+    → (sound-state list (nearest-state list lent (s .b) (nearest (s .m))) ≡ true)
+    × (nearest-state list lent (s .b) (nearest (s .m)) .m ≡ kept-every * nearest (s .m))
+unfolding restarted started
+nearest-sound list s lent can =
+    by-test (eqb (nearest (s .m)) 0)
+    (λ e. rw e (restarted-sound list (lent .log) (s .b) (can .of-list) (can .starts e), omega (arith, eqb-true (nearest (s .m)) 0 e)))
+    (λ e.
+    let right = kept-passed list (lent .kept) (s .b) (nearest (s .m)) .0 (can .kept-used e) in
+    rw e (right .of-state, right .steps))
+
 pub undo-sound : UndoSound
-unfolding replayed started
+unfolding replayed-near
 undo-sound list s lent h =
     by-test (eqb (undo list s lent .number) 0)
     (λ e.
     let n = eqb-true _ 0 e in
     let can = undo-can list s lent n .before in
     let few = sound-means list s .0 h .few-steps in
+    let near = nearest-sound list s lent can in
     rw (undo-state list s lent n)
-    (replay-sound list (lent .log) (stations list) (s .m - 1) _
-    (record { of-list = can .of-list; of-state = restarted-sound list (lent .log) (s .b) (can .of-list) (can .starts) }) (omega arith)))
+    (replay-sound list (lent .log) _ _ _ (record { of-list = can .of-list; of-state = near .0 }) (rw (near .1) (omega arith))))
     (λ e. rw (undo-refused list s lent e) h)

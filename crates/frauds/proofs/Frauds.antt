@@ -4,14 +4,14 @@ use mathlib.Core.Logic.{_≢_}
 use mathlib.Core.Bool.{true, false, false≢true}
 use mathlib.Core.List.{List, [], _∷_, _++_}
 use mathlib.Core.Option.{none, some}
-use Prim.Native.Nat.{ℕ, _+_, _<_}
+use Prim.Native.Nat.{ℕ, _+_, _*_, _/_, _%_, _<_}
 use native.Mathlib.Omega.{arith}
-use borrow.Author.Tests.{eqb-true, eqb-false}
+use borrow.Author.Tests.{eqb-true, eqb-false, eq-eqb}
 use lib.Dec.{eqb}
 use lib.ListN.{getD, replicate}
 use lib.IntN.{ℤ, pos}
 use Rattle.rules.specs.Words.{each, first, tally, mask, values, changed, written, Answer, judge}
-use Rattle.rules.specs.Names.{STATION, SKIP, NOT-READY, ENDED}
+use Rattle.rules.specs.Names.{STATION, SKIP, NOT-READY, ENDED, max-kept, kept-every, kept-length}
 use Rattle.rules.specs.Records.{Pick, pick-at, record-from, list-record-at}
 use Rattle.rules.specs.Fields.{rules-of, fields-right}
 use Rattle.rules.specs.Shape.{stride, wrong-at, walked, well-shaped, too-deep-at}
@@ -21,6 +21,7 @@ use Rattle.rules.specs.Build.{laid, inits, bodies, list-of, bytes-of, Built, bu
 use Rattle.rules.specs.List.{stations, initials-after, is-at, init-right, initial-right, outside-targets, inside-target, inside-targets, later-right, sound-list}
 use Rattle.rules.specs.State.{State, zeros, priority, few-low, empty-at, sound-state}
 use Rattle.rules.specs.Lent.{Lent}
+use Rattle.rules.specs.Kept.{kept-offset, encoded, kept-state, keep}
 use Rattle.rules.specs.Values.{set-value, holds}
 use Rattle.rules.specs.Start.{initial-run, started, start-records, Started, start}
 use Rattle.rules.specs.Ready.{readiness-at, readiness, ended, waiting, ready, lowest}
@@ -36,7 +37,12 @@ use Rattle.laws.proofs.Ready.{ready-alone}
 use Rattle.laws.proofs.Told.{step-tells}
 use Rattle.lit.proofs.Shown.{lights-show}
 use Rattle.lit.proofs.Only.{shows-only}
+use Rattle.laws.specs.Passed.{Known}
 use Rattle.fair.specs.Sound.{Held}
+use Rattle.fair.proofs.Kept.{step-sound}
+use Rattle.fair.proofs.Taken.{step-taken}
+use Rattle.kept.specs.Keeps.{HasPlace}
+use Rattle.kept.proofs.Back.{kept-back}
 use Rattle.demands.specs.Order.{before-steps}
 use Rattle.demands.specs.Runs.{Singles, one-more}
 use Rattle.demands.specs.Demands.{Demand2}
@@ -92,18 +98,21 @@ s₂ = dryer 2 3 6 (pos 1) 2
 abbrev pick : ℕ → ℕ → Pick
 pick station reset = record { station = station; reset = reset }
 
--- a log with room whose bytes are none that a call writes; after the start, and after one step and two
+-- a log with room, and room for the kept states, whose bytes are none that a call writes; after the start, and after one step and two
+abbrev kept-junk : List ℕ
+kept-junk = replicate (kept-length * max-kept) 9
+
 abbrev junk : Lent
-junk = record { log = replicate 8 9 }
+junk = record { log = replicate 8 9; kept = kept-junk }
 
 abbrev l₀ : Lent
-l₀ = record { log = 0 ∷ 0 ∷ 1 ∷ 0 ∷ 9 ∷ 9 ∷ 9 ∷ 9 ∷ [] }
+l₀ = record { log = 0 ∷ 0 ∷ 1 ∷ 0 ∷ 9 ∷ 9 ∷ 9 ∷ 9 ∷ []; kept = kept-junk }
 
 abbrev l₁ : Lent
-l₁ = record { log = 0 ∷ 0 ∷ 1 ∷ 0 ∷ 0 ∷ 1 ∷ 9 ∷ 9 ∷ [] }
+l₁ = record { log = 0 ∷ 0 ∷ 1 ∷ 0 ∷ 0 ∷ 1 ∷ 9 ∷ 9 ∷ []; kept = kept-junk }
 
 abbrev l₂ : Lent
-l₂ = record { log = 0 ∷ 0 ∷ 1 ∷ 0 ∷ 0 ∷ 1 ∷ 1 ∷ 0 ∷ [] }
+l₂ = record { log = 0 ∷ 0 ∷ 1 ∷ 0 ∷ 0 ∷ 1 ∷ 1 ∷ 0 ∷ []; kept = kept-junk }
 
 abbrev resets : List ℕ
 resets = 0 ∷ 0 ∷ []
@@ -165,7 +174,7 @@ record Computed : Type 0 where
   two-count : build two-skips (replicate 64 9) .count ≡ 4
 
 computed : Computed
-unfolding each first tally mask values changed written judge record-from list-record-at rules-of fields-right stride wrong-at walked well-shaped too-deep-at check wrong-length field-place station-count depth-place parts-of stations-of leading-sets initial-part size laid inits bodies list-of bytes-of build stations initials-after is-at init-right initial-right outside-targets inside-target inside-targets later-right sound-list few-low empty-at sound-state set-value holds initial-run started start-records start readiness-at readiness ended waiting ready lowest body-run step-vars step-position charge stepped picked step steps-from run reads writes led-to body some-of touches lights
+unfolding each first tally mask values changed written judge record-from list-record-at rules-of fields-right stride wrong-at walked well-shaped too-deep-at check wrong-length field-place station-count depth-place parts-of stations-of leading-sets initial-part size laid inits bodies list-of bytes-of build stations initials-after is-at init-right initial-right outside-targets inside-target inside-targets later-right sound-list few-low empty-at sound-state set-value holds initial-run started start-records start readiness-at readiness ended waiting ready lowest body-run step-vars step-position charge stepped picked keep step steps-from run reads writes led-to body some-of touches lights
 computed =
     record {
       begins = refl;
@@ -333,6 +342,36 @@ module _ (bench : Seven) (two : Demand2 bench) where
 not-ready : (list : List ℕ) (s : State) (j : ℕ) → j < s .n → waiting list s j ≡ true → ready list s j ≡ false
 not-ready list s j l w = by-test (ready list s j) (λ r. absurd (false≢true (sym (ready-alone list s j l r .1) ∙ w))) (λ r. r)
 
+-- a step that reaches a multiple of 64 leaves its own state in the kept place: it was there before if nothing was written, and it is not the
+-- state before
+module _ (bench : Seven) (two : Demand2 bench) (list : List ℕ) (s : State) (lent : Lent) (p : Pick) (h : Held s)
+    (e : bench .step list s lent p .number ≡ 0) (whole : (s .m + 1) % kept-every ≡ 0) where
+  abbrev place : ℕ
+  place = (s .m + 1) / kept-every
+
+  keeping : (bench .step list s lent p .lent .kept ≡ lent .kept → kept-state (lent .kept) place ≡ bench .step list s lent p .state)
+      × (bench .step list s lent p .lent .kept ≡ written (lent .kept) (kept-offset place) (encoded s) → ⊥)
+  unfolding keep
+  keeping =
+      let after = bench .step list s lent p .state in
+      let (can, chosen, reset) = two .taken-when list s lent p .0 e in
+      let same = step-same bench two list s lent p h (step-taken list s lent p .1 (can, chosen, reset)) in
+      let (does, left) = two .step-does list s lent p h e in
+      let room : HasPlace (lent .kept) place = omega (arith, can .steps-left, can .kept-room) in
+      let sound : sound-state list after ≡ true = rw (ap (λ (a : Stepped). a .state) same) (step-sound list s lent p (can .of-state)) in
+      let known : Known list after = record { of-list = can .of-list; of-state = sound } in
+      let before : Known list s = record { of-list = can .of-list; of-state = can .of-state } in
+      let written-there : bench .step list s lent p .lent .kept ≡ written (lent .kept) (kept-offset place) (encoded after) =
+      ap (λ (l : Lent). l .kept) left ∙ rw (does .m-is, eq-eqb ((s .m + 1) % kept-every) 0 whole) in
+      let there = kept-back list (lent .kept) after place (does .held) known room in (
+        λ none. rw (sym written-there ∙ none) at (there .state-is),
+        λ old.
+            let kept-before = kept-back list (lent .kept) s place h before room in
+            let s-is : s ≡ after = sym (kept-before .state-is) ∙ rw (sym old ∙ written-there) (there .state-is) in
+            let m : s .m ≡ s .m + 1 = ap (λ (t : State). t .m) s-is ∙ does .m-is in
+            omega arith,
+      )
+
 pub by-demand-2 : ByDemand2
 by-demand-2 bench two =
     let starts = begins bench two in
@@ -414,6 +453,8 @@ by-demand-2 bench two =
           let t = two .step-tells list s lent p in
           let e : NOT-READY ≡ ENDED = sym (t .waiting-when .1 (t .ended-when .0 h .0, w)) ∙ h in
           omega (arith, e);
+      keeps-old = λ list s lent p h e whole old. keeping bench two list s lent p h e whole .1 old;
+      keeps-none = λ list s lent p h e whole other none. other (keeping bench two list s lent p h e whole .0 none);
       another-b = λ list b resets lent e other. other (two .start-begins list b resets lent e .0 .b-is);
     }
 

@@ -3,13 +3,13 @@
 use mathlib.Core.Path.{_≡_, refl, sym, ap, _∙_}
 use mathlib.Core.List.{List, [], _∷_, _++_}
 use mathlib.Core.Option.{Option, none, some}
-use Prim.Native.Nat.{ℕ}
+use Prim.Native.Nat.{ℕ, _*_}
 use native.Mathlib.Omega.{arith}
 use lib.ListN.{replicate}
 use lib.IntN.{pos, negℤ}
 use lib.Signed.{leZ}
 use Rattle.rules.specs.Words.{each, first, tally, values, changed, written, judge}
-use Rattle.rules.specs.Names.{STATION, SKIP, SET, WHILE, OD, AWAIT, END}
+use Rattle.rules.specs.Names.{STATION, SKIP, SET, WHILE, OD, AWAIT, END, max-kept, kept-length}
 use Rattle.rules.specs.Records.{Pick, record-from, list-record-at}
 use Rattle.rules.specs.Fields.{rules-of, fields-right}
 use Rattle.rules.specs.Shape.{stride, wrong-at, walked, well-shaped, too-deep-at}
@@ -18,6 +18,8 @@ use Rattle.rules.specs.Trees.{parts-of, stations-of, leading-sets, initial-part
 use Rattle.rules.specs.Build.{laid, inits, bodies, list-of, bytes-of}
 use Rattle.rules.specs.List.{stations, initials-after, is-at, init-right, initial-right, outside-targets, inside-target, inside-targets, later-right, sound-list}
 use Rattle.rules.specs.State.{zeros, priority, few-low, empty-at, sound-state}
+use Rattle.rules.specs.Lent.{Lent}
+use Rattle.rules.specs.Kept.{keep}
 use Rattle.rules.specs.Values.{set-value, holds}
 use Rattle.rules.specs.Start.{initial-run, started, start-records, start}
 use Rattle.rules.specs.Ready.{readiness-at, readiness, ended, waiting, ready, lowest}
@@ -38,9 +40,12 @@ file =
 abbrev pick : Pick
 pick = record { station = 0; reset = 0 }
 
+abbrev lent : Lent
+lent = record { log = replicate 8 9; kept = replicate (kept-length * max-kept) 9 }
+
 -- a start, and two steps of station 0, before each of which station 1 waits
 abbrev now : Now
-now = history charging (built file) zeros (record { log = replicate 8 9 }) (START 0 (0 ∷ 0 ∷ []) ∷ STEP pick ∷ STEP pick ∷ [])
+now = history charging (built file) zeros lent (START 0 (0 ∷ 0 ∷ []) ∷ STEP pick ∷ STEP pick ∷ [])
 
 -- what stands, or a start with nothing where nothing does
 abbrev standing : Option Steps → Steps
@@ -55,13 +60,13 @@ record Computed : Type 0 where
   low : tally (λ j. leZ (priority (now .state) j) (negℤ (pos 2))) (stations (built file)) ≡ 1
 
 computed : Computed
-unfolding each first tally values changed written judge record-from list-record-at rules-of fields-right stride wrong-at walked well-shaped too-deep-at check wrong-length field-place station-count depth-place parts-of stations-of leading-sets initial-part size laid inits bodies list-of bytes-of stations initials-after is-at init-right initial-right outside-targets inside-target inside-targets later-right sound-list few-low empty-at sound-state set-value holds initial-run started start-records start readiness-at readiness ended waiting ready lowest body-run step-vars step-position charge stepped picked step stepped-on called calls-from
+unfolding each first tally values changed written judge record-from list-record-at rules-of fields-right stride wrong-at walked well-shaped too-deep-at check wrong-length field-place station-count depth-place parts-of stations-of leading-sets initial-part size laid inits bodies list-of bytes-of stations initials-after is-at init-right initial-right outside-targets inside-target inside-targets later-right sound-list few-low empty-at sound-state set-value holds initial-run started start-records start readiness-at readiness ended waiting ready lowest body-run step-vars step-position charge stepped picked keep step stepped-on called calls-from
 computed = record { accepted = accepted-is file .0 refl; stands = refl; two = refl; low = refl }
 
 pub waiting-breaks : WaitingBreaks
 waiting-breaks bounds =
     let w = computed in
-    let few = bounds file (w .accepted) zeros (record { log = replicate 8 9 }) _ (standing (now .standing)) (w .stands) 2 (omega arith) (omega (arith, w .two)) in
+    let few = bounds file (w .accepted) zeros lent _ (standing (now .standing)) (w .stands) 2 (omega arith) (omega (arith, w .two)) in
     omega (arith, few, w .low, w .two)
 
 idle-stays : (list : List ℕ) (before : Now) (cs : List Call) → calls-from idle list before cs ≡ before
@@ -76,6 +81,6 @@ idle-stays list before (UNDO ∷ cs) = idle-stays list before cs
 idle-stays list before (LIGHTS ∷ cs) = idle-stays list before cs
 
 pub idle-bounds : IdleBounds
-idle-bounds list s lent cs steps e =
+idle-bounds list s given cs steps e =
     let nothing-stands : none ≡ some steps = ap (λ (after : Now). after .standing) (sym (idle-stays list _ cs)) ∙ e in
     absurd (let z : _≡_ {A = ℕ} 0 1 = cc in omega arith)

@@ -6,15 +6,16 @@ use mathlib.Core.Logic.{_≢_}
 use mathlib.Core.Bool.{true, false, not}
 use mathlib.Core.List.{List, [], _∷_, _++_}
 use mathlib.Core.Option.{some}
-use Prim.Native.Nat.{ℕ, _+_, _*_, _/_, _≤_, _<_}
+use Prim.Native.Nat.{ℕ, _+_, _*_, _/_, _%_, _≤_, _<_}
 use lib.Dec.{eqb}
 use lib.ListN.{length, take, getD}
 use lib.IntN.{ℤ}
-use Rattle.rules.specs.Words.{if_then_else_, changed, Answer}
-use Rattle.rules.specs.Names.{LENGTH, LIST, ENDED, variables}
+use Rattle.rules.specs.Words.{if_then_else_, changed, written, Answer}
+use Rattle.rules.specs.Names.{LENGTH, LIST, ENDED, variables, kept-every}
 use Rattle.rules.specs.Records.{Pick, pick-at}
 use Rattle.rules.specs.State.{State, zeros, priority}
 use Rattle.rules.specs.Lent.{Lent}
+use Rattle.rules.specs.Kept.{kept-offset, encoded, kept-state}
 use Rattle.rules.specs.Ready.{next-step, ended, waiting, ready}
 use Rattle.rules.specs.Turn.{charged}
 use Rattle.rules.specs.Step.{Stepped, step}
@@ -125,6 +126,13 @@ pub record ShutOut (bench : Seven) : Type 0 where
   pub ended-untold : ((list : List ℕ) (s : State) (lent : Lent) (p : Pick) → bench .step list s lent p .number ≢ ENDED) → ⊥
   pub waiting-ended : (list : List ℕ) (s : State) (lent : Lent) (p : Pick) → waiting list s (p .station) ≡ true
       → bench .step list s lent p .number ≡ ENDED → ⊥
+  -- a STEP that reaches a multiple of 64 and keeps the state before it, and one that keeps none, unless the kept place had the state already
+  pub keeps-old : (list : List ℕ) (s : State) (lent : Lent) (p : Pick) → Held s → bench .step list s lent p .number ≡ 0
+      → (s .m + 1) % kept-every ≡ 0
+      → bench .step list s lent p .lent .kept ≡ written (lent .kept) (kept-offset ((s .m + 1) / kept-every)) (encoded s) → ⊥
+  pub keeps-none : (list : List ℕ) (s : State) (lent : Lent) (p : Pick) → Held s → bench .step list s lent p .number ≡ 0
+      → (s .m + 1) % kept-every ≡ 0 → kept-state (lent .kept) ((s .m + 1) / kept-every) ≢ bench .step list s lent p .state
+      → bench .step list s lent p .lent .kept ≡ lent .kept → ⊥
   -- a START that stores another B than it was given
   pub another-b : (list : List ℕ) (b : ℕ) (resets : List ℕ) (lent : Lent) → bench .start list b resets lent .number ≡ 0
       → bench .start list b resets lent .state .b ≢ b → ⊥

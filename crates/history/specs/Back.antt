@@ -4,15 +4,17 @@ use mathlib.Core.Logic.{_≢_}
 use mathlib.Core.Bool.{true}
 use mathlib.Core.List.{List, _++_}
 use mathlib.Core.Option.{some}
-use Prim.Native.Nat.{ℕ, suc}
-use Rattle.rules.specs.Names.{EMPTY, LOG}
+use Prim.Native.Nat.{ℕ, suc, _*_, _≤_}
+use Rattle.rules.specs.Names.{ROOM, STATE, EMPTY, LOG, kept-every}
 use Rattle.rules.specs.Records.{Pick}
 use Rattle.rules.specs.List.{stations}
 use Rattle.rules.specs.State.{State, sound-state}
 use Rattle.rules.specs.Lent.{Lent}
-use Rattle.rules.specs.Undo.{Undone, replayed}
+use Rattle.rules.specs.Undo.{Undone, replayed, undo-from-start}
 use Rattle.rules.specs.Calls.{Seven}
-use Rattle.rules.specs.History.{Call, Steps, begun, taken, top, start-b, height, spelled, Now, history}
+use Rattle.rules.specs.History.{Call, Steps, begun, taken, top, start-b, height, state-at, spelled, Now, history}
+use Rattle.laws.specs.Passed.{KeptRoom}
+use Rattle.kept.specs.Keeps.{HasState}
 
 -- each state on the stack is what START, or STEP from the state below, answered unrefused
 pub data Made (bench : Seven) (list : List ℕ) : Steps → Type 0 where
@@ -25,6 +27,10 @@ pub data Made (bench : Seven) (list : List ℕ) : Steps → Type 0 where
 abbrev pub below : Steps → Undone
 below (begun b resets s) = record { number = EMPTY; state = s }
 below (taken steps p s) = record { number = 0; state = top steps }
+
+-- each kept place up to the steps that stand holds the state with its steps standing
+abbrev pub KeptAll : List ℕ → Steps → Type 0
+KeptAll kept steps = (j : ℕ) → 1 ≤ j → kept-every * j ≤ height steps → HasState kept j (state-at steps (kept-every * j))
 
 pub record Back (bench : Seven) (list : List ℕ) (now : Now) (steps : Steps) : Type 0 where
   -- the last state answered is the top of the stack; its n is the list's, its B the start's, its m counts the steps on the start, and it
@@ -39,8 +45,14 @@ pub record Back (bench : Seven) (list : List ℕ) (now : Now) (steps : Steps) : 
   pub logged : (rest : List ℕ) × (now .lent .log ≡ spelled steps ++ rest)
   -- replaying the first n+m records gives the state: undo from one step more would
   pub replays : replayed list (now .lent .log) (now .state .b) (suc (now .state .m)) ≡ record { number = 0; state = now .state }
-  -- undo answers the state below, or EMPTY; never LOG
+  -- the kept states have their room, and are those of the run
+  pub kept-room : KeptRoom (now .lent)
+  pub kept : KeptAll (now .lent .kept) steps
+  -- undo answers the state below, or EMPTY, as document 01's does, which steps everything again; never ROOM, STATE or LOG
   pub undone : bench .undo list (now .state) (now .lent) ≡ below steps
+  pub as-from-start : bench .undo list (now .state) (now .lent) ≡ undo-from-start list (now .state) (now .lent)
+  pub never-room : bench .undo list (now .state) (now .lent) .number ≢ ROOM
+  pub never-state : bench .undo list (now .state) (now .lent) .number ≢ STATE
   pub never-log : bench .undo list (now .state) (now .lent) .number ≢ LOG
 
 abbrev pub UndoBelow : Seven → Type 0

@@ -12,8 +12,8 @@ use Rattle.rules.specs.Build.{Built, build-tests, build}
 use Rattle.rules.specs.State.{State}
 use Rattle.rules.specs.Lent.{Lent}
 use Rattle.rules.specs.Start.{started, with-starts, Started, start-tests, start}
-use Rattle.rules.specs.Step.{stepped, with-pick, pick-tests, Picked, picked, step-tests, Stepped, step}
-use Rattle.rules.specs.Undo.{Undone, replayed, before-replay, replay-tests, undo-tests, undo}
+use Rattle.rules.specs.Step.{stepped, with-step, pick-tests, Picked, picked, step-tests, Stepped, step}
+use Rattle.rules.specs.Undo.{Undone, replayed-near, before-replay, replay-tests, undo-tests, undo}
 use Rattle.rules.specs.Lights.{Lights, lights-tests, lights}
 use Rattle.laws.specs.Passed.{CanStart, CanStep, CanPick, CanReplay, CanUndo}
 use Rattle.laws.proofs.Choice.{by-test}
@@ -76,7 +76,7 @@ module _ (list : List ℕ) (s : State) (lent : Lent) (p : Pick) where
   unfolding step
   step-state h = rw (eq-eqb _ 0 (sym step-number ∙ h)) (picked-state list s p (step-picks h))
 
-  pub step-written : step list s lent p .number ≡ 0 → step list s lent p .lent ≡ with-pick lent s p
+  pub step-written : step list s lent p .number ≡ 0 → step list s lent p .lent ≡ with-step lent s p (step list s lent p .state)
   unfolding step
   step-written h = rw (eq-eqb _ 0 (sym step-number ∙ h))
 
@@ -95,7 +95,7 @@ module _ (list : List ℕ) (s : State) (lent : Lent) (p : Pick) where
       ≡ record {
         number = picked list s p .number;
         state = picked list s p .state;
-        lent = if eqb (picked list s p .number) 0 then with-pick lent s p else lent;
+        lent = if eqb (picked list s p .number) 0 then with-step lent s p (picked list s p .state) else lent;
       }
   unfolding step picked
   step-picked can =
@@ -110,7 +110,7 @@ module _ (list : List ℕ) (s : State) (lent : Lent) where
   pub undo-can : undo list s lent .number ≡ 0 → CanUndo list s lent
   undo-can h = undo-passed list s lent .0 (sym undo-number ∙ h)
 
-  pub undo-state : undo list s lent .number ≡ 0 → undo list s lent .state ≡ replayed list (lent .log) (s .b) (s .m) .state
+  pub undo-state : undo list s lent .number ≡ 0 → undo list s lent .state ≡ replayed-near list lent (s .b) (s .m) .state
   unfolding undo
   undo-state h = rw (eq-eqb _ 0 (sym undo-number ∙ h))
 
@@ -129,14 +129,14 @@ module _ (list : List ℕ) (s : State) (lent : Lent) where
   -- and one that its replay decides
   pub undo-replayed : CanReplay list s lent
       → undo list s lent
-      ≡ (if eqb (replayed list (lent .log) (s .b) (s .m) .number) 0
-      then record { number = 0; state = replayed list (lent .log) (s .b) (s .m) .state }
+      ≡ (if eqb (replayed-near list lent (s .b) (s .m) .number) 0
+      then record { number = 0; state = replayed-near list lent (s .b) (s .m) .state }
       else record { number = LOG; state = s })
   unfolding undo judge
   undo-replayed can =
       let same = ap (λ (a : Answer). a .number) (judge-then (before-replay list s lent) (replay-tests list s lent)
       (unrefused (before-replay list s lent) refl .0 (replay-passed list s lent .1 can))) in
-      by-test (eqb (replayed list (lent .log) (s .b) (s .m) .number) 0) (λ e. rw (same, e)) (λ e. rw (same, e))
+      by-test (eqb (replayed-near list lent (s .b) (s .m) .number) 0) (λ e. rw (same, e)) (λ e. rw (same, e))
 
 pub lights-number : (list : List ℕ) (s : State) → lights list s .number ≡ refusal (lights-tests list s)
 unfolding lights

@@ -1,27 +1,43 @@
 -- A call's tests refuse nothing exactly where what they ask for holds. Assumes nothing.
-use mathlib.Core.Path.{_≡_, refl, ap, _∙_}
+use mathlib.Core.Path.{_≡_, refl, sym, ap, _∙_}
 use mathlib.Core.Logic.{_↔_}
+use mathlib.Core.Bool.{Bool, true, false, _&&_, not}
 use mathlib.Core.List.{List}
 use Prim.Native.Nat.{ℕ, _+_, _*_}
 use native.Mathlib.Omega.{arith}
-use borrow.Author.Tests.{leb-true, le-leb, lt-leb, leb-false, ltb-false, le-ltb, eqb-true, eq-eqb, eqb-false, ne-eqb, not-false}
+use borrow.Author.Tests.{leb-true, le-leb, lt-leb, leb-false, ltb-false, le-ltb, eqb-true, eq-eqb, eqb-false, ne-eqb, not-false, not-true}
+use lib.Dec.{eqb}
 use lib.ListN.{length, getD}
 use Rattle.rules.specs.Words.{Answer, refusal}
-use Rattle.rules.specs.Names.{max-steps}
+use Rattle.rules.specs.Names.{max-steps, max-kept, kept-every, kept-length}
 use Rattle.rules.specs.Records.{Pick}
 use Rattle.rules.specs.List.{stations}
 use Rattle.rules.specs.State.{State}
 use Rattle.rules.specs.Lent.{Lent}
+use Rattle.rules.specs.Kept.{kept-short, kept-state, kept-right}
 use Rattle.rules.specs.Start.{start-tests}
 use Rattle.rules.specs.Step.{before-pick, pick-tests, step-tests}
-use Rattle.rules.specs.Undo.{replayed, before-replay, undo-tests}
+use Rattle.rules.specs.Undo.{starts-right, nearest, replayed-near, before-replay, undo-tests}
 use Rattle.rules.specs.Lights.{lights-tests}
-use Rattle.laws.specs.Passed.{Known, CanStart, CanStep, CanPick, CanReplay, CanUndo}
-use Rattle.laws.proofs.Choice.{neither}
+use Rattle.laws.specs.Passed.{Known, KeptRoom, CanStart, CanStep, CanPick, RightKept, CanReplay, CanUndo}
+use Rattle.laws.proofs.Choice.{neither, both, split}
 use Rattle.laws.proofs.Places.{each-at, each-all}
 use Rattle.laws.proofs.Judge.{unrefused, judge-then}
 use Rattle.laws.proofs.Sound.{sound-means}
 use Rattle.laws.proofs.Ready.{ready-else, ready-alone}
+
+-- the buffer of kept states is long enough, or is refused
+room-kept : (lent : Lent) → kept-short (lent .kept) ≡ false → KeptRoom lent
+room-kept lent e = ltb-false (length (lent .kept)) (kept-length * max-kept) e
+
+kept-roomy : (lent : Lent) → KeptRoom lent → kept-short (lent .kept) ≡ false
+kept-roomy lent h = le-ltb (length (lent .kept)) (kept-length * max-kept) h
+
+-- a test that is made only where another holds refuses nothing exactly where it passes there
+only-where : (a b : Bool) → (a && not b ≡ false) ↔ (a ≡ true → b ≡ true)
+only-where true true = (λ e f. refl, λ h. refl)
+only-where true false = (λ e f. sym e, λ h. sym (h refl))
+only-where false b = (λ e f. absurd (let z : _≡_ {A = ℕ} 0 1 = cc in omega arith), λ h. refl)
 
 pub lights-passed : (list : List ℕ) (s : State) → (refusal (lights-tests list s) ≡ 0) ↔ Known list s
 lights-passed list s =
@@ -43,6 +59,7 @@ start-passed list b resets lent =
             count = n;
             within = λ j l. leb-true (getD resets j 0) b (each-at _ (length resets) (not-false _ within) j (omega arith));
             room = ltb-false (length (lent .log)) (2 * stations list) (t .1 .1 .0);
+            kept-room = room-kept lent (t .1 .1 .1 .0);
           },
       λ h. tests .1 (
         rw (h .of-list),
@@ -51,7 +68,7 @@ start-passed list b resets lent =
             eq-eqb (length resets) (stations list) (h .count),
             each-all _ (length resets) (λ j l. le-leb (getD resets j 0) b (h .within j (omega (arith, h .count)))),
           ),
-          (le-ltb (length (lent .log)) (2 * stations list) (h .room), tt),
+          (le-ltb (length (lent .log)) (2 * stations list) (h .room), (kept-roomy lent (h .kept-room), tt)),
         ),
       ),
     )
@@ -67,6 +84,7 @@ before-passed list s lent =
             of-state = sound;
             steps-left = omega (arith, sound-means list s .0 sound .few-steps, eqb-false (s .m) max-steps (t .1 .1 .0));
             room = omega (arith, ltb-false (length (lent .log)) (2 * (s .n + s .m + 1)) (t .1 .1 .1 .0));
+            kept-room = room-kept lent (t .1 .1 .1 .1 .0);
           },
       λ h. tests .1 (
         rw (h .of-list),
@@ -74,7 +92,7 @@ before-passed list s lent =
           rw (h .of-state),
           (
             ne-eqb (s .m) max-steps (omega (arith, h .steps-left)),
-            (le-ltb (length (lent .log)) (2 * (s .n + s .m + 1)) (omega (arith, h .room)), tt),
+            (le-ltb (length (lent .log)) (2 * (s .n + s .m + 1)) (omega (arith, h .room)), (kept-roomy lent (h .kept-room), tt)),
           ),
         ),
       ),
@@ -113,10 +131,27 @@ pub step-passed : (list : List ℕ) (s : State) (lent : Lent) (p : Pick)
 step-passed list s lent p = (
   λ h.
       let t = unrefused (step-tests list s lent p) refl .0 h in
-      let can = before-passed list s lent .0 (unrefused (before-pick list s lent) refl .1 (t .0, (t .1 .0, (t .1 .1 .0, (t .1 .1 .1 .0, tt))))) in
-      (can, pick-passed list s p .0 (unrefused (pick-tests list s p) refl .1 (t .1 .1 .1 .1))),
+      let can = before-passed list s lent .0 (unrefused (before-pick list s lent) refl .1 (t .0, (t .1 .0, (t .1 .1 .0, (t .1 .1 .1 .0, (t .1 .1 .1 .1 .0, tt)))))) in
+      (can, pick-passed list s p .0 (unrefused (pick-tests list s p) refl .1 (t .1 .1 .1 .1 .1))),
   λ h. step-tests-pick list s lent p (h .0) ∙ pick-passed list s p .1 (h .1),
 )
+
+pub kept-passed : (list kept : List ℕ) (b j : ℕ) → (kept-right list kept b j ≡ true) ↔ RightKept list kept b j
+unfolding kept-right
+kept-passed list kept b j =
+    let s = kept-state kept j in (
+      λ h.
+          let u = split _ _ h in
+          let v = split _ _ (u .0) in
+          let w = split _ _ (v .0) in
+          record {
+            zeros = w .0;
+            of-state = w .1;
+            steps = eqb-true (s .m) (kept-every * j) (v .1);
+            b-is = eqb-true (s .b) b (u .1);
+          },
+      λ h. both (both (both (h .zeros) (h .of-state)) (eq-eqb (s .m) (kept-every * j) (h .steps))) (eq-eqb (s .b) b (h .b-is)),
+    )
 
 pub replay-passed : (list : List ℕ) (s : State) (lent : Lent) → (refusal (before-replay list s lent) ≡ 0) ↔ CanReplay list s lent
 replay-passed list s lent =
@@ -127,8 +162,10 @@ replay-passed list s lent =
             of-list = not-false _ (t .0);
             of-state = not-false _ (t .1 .0);
             some-steps = omega (arith, eqb-false (s .m) 0 (t .1 .1 .0));
-            room = ltb-false (length (lent .log)) (2 * (s .n + s .m)) (t .1 .1 .1 .0);
-            starts = not-false _ (t .1 .1 .1 .1 .0);
+            kept-room = room-kept lent (t .1 .1 .1 .0);
+            kept-used = λ e. only-where (not (eqb (nearest (s .m)) 0)) (kept-right list (lent .kept) (s .b) (nearest (s .m))) .0 (t .1 .1 .1 .1 .0) (rw e);
+            room = ltb-false (length (lent .log)) (2 * (s .n + s .m)) (t .1 .1 .1 .1 .1 .0);
+            starts = only-where (eqb (nearest (s .m)) 0) (starts-right list (s .b) (lent .log)) .0 (t .1 .1 .1 .1 .1 .1 .0);
           },
       λ h. tests .1 (
         rw (h .of-list),
@@ -136,7 +173,16 @@ replay-passed list s lent =
           rw (h .of-state),
           (
             ne-eqb (s .m) 0 (omega (arith, h .some-steps)),
-            (le-ltb (length (lent .log)) (2 * (s .n + s .m)) (h .room), (rw (h .starts), tt)),
+            (
+              kept-roomy lent (h .kept-room),
+              (
+                only-where (not (eqb (nearest (s .m)) 0)) (kept-right list (lent .kept) (s .b) (nearest (s .m))) .1 (λ e. h .kept-used (not-true _ e)),
+                (
+                  le-ltb (length (lent .log)) (2 * (s .n + s .m)) (h .room),
+                  (only-where (eqb (nearest (s .m)) 0) (starts-right list (s .b) (lent .log)) .1 (h .starts), tt),
+                ),
+              ),
+            ),
           ),
         ),
       ),
@@ -144,14 +190,23 @@ replay-passed list s lent =
 
 -- where nothing refuses an undo before its replay, the replay decides
 pub undo-tests-replay : (list : List ℕ) (s : State) (lent : Lent) → CanReplay list s lent
-    → (refusal (undo-tests list s lent) ≡ 0) ↔ (replayed list (lent .log) (s .b) (s .m) .number ≡ 0)
+    → (refusal (undo-tests list s lent) ≡ 0) ↔ (replayed-near list lent (s .b) (s .m) .number ≡ 0)
 undo-tests-replay list s lent can =
     let tests = unrefused (undo-tests list s lent) refl in
     let before = unrefused (before-replay list s lent) refl .0 (replay-passed list s lent .1 can) in (
-      λ h. eqb-true _ 0 (not-false _ (tests .0 h .1 .1 .1 .1 .1 .0)),
+      λ h. eqb-true _ 0 (not-false _ (tests .0 h .1 .1 .1 .1 .1 .1 .1 .0)),
       λ e. tests .1 (
         before .0,
-        (before .1 .0, (before .1 .1 .0, (before .1 .1 .1 .0, (before .1 .1 .1 .1 .0, (rw (eq-eqb _ 0 e), tt))))),
+        (
+          before .1 .0,
+          (
+            before .1 .1 .0,
+            (
+              before .1 .1 .1 .0,
+              (before .1 .1 .1 .1 .0, (before .1 .1 .1 .1 .1 .0, (before .1 .1 .1 .1 .1 .1 .0, (rw (eq-eqb _ 0 e), tt)))),
+            ),
+          ),
+        ),
       ),
     )
 
@@ -160,7 +215,7 @@ undo-passed list s lent = (
   λ h.
       let t = unrefused (undo-tests list s lent) refl .0 h in
       let can = replay-passed list s lent .0
-      (unrefused (before-replay list s lent) refl .1 (t .0, (t .1 .0, (t .1 .1 .0, (t .1 .1 .1 .0, (t .1 .1 .1 .1 .0, tt)))))) in
+      (unrefused (before-replay list s lent) refl .1 (t .0, (t .1 .0, (t .1 .1 .0, (t .1 .1 .1 .0, (t .1 .1 .1 .1 .0, (t .1 .1 .1 .1 .1 .0, (t .1 .1 .1 .1 .1 .1 .0, tt)))))))) in
       record { before = can; replays = undo-tests-replay list s lent can .0 h },
   λ h. undo-tests-replay list s lent (h .before) .1 (h .replays),
 )

@@ -114,7 +114,7 @@ module _ (list : List ℕ) (s : State) (p : Pick) where
 
 module _ (list : List ℕ) (s : State) (lent : Lent) (p : Pick) where
   -- a number that neither the tests before the pick nor those after the readiness have
-  step-told : (x : ℕ) → x ≢ 0 → among x (LIST ∷ STATE ∷ FULL ∷ ROOM ∷ []) ≡ false → among x (TURN ∷ RESET ∷ []) ≡ false
+  step-told : (x : ℕ) → x ≢ 0 → among x (LIST ∷ STATE ∷ FULL ∷ ROOM ∷ ROOM ∷ []) ≡ false → among x (TURN ∷ RESET ∷ []) ≡ false
       → (step list s lent p .number ≡ x) ↔ (CanStep list s lent × (told (readiness list s (p .station)) .number ≡ x))
   step-told x some not-before not-after = (
     λ h.

@@ -31,65 +31,75 @@ pub extern "C" fn press_build(file: &[u8], list: &mut [u8]) -> Built
     build::build(file, list)
 }
 
-// The start of a run, with its start records in the log. A refusal answers a state of zeros and leaves the log as it was.
+// The start of a run, with its start records in the log. A refusal answers a state of zeros and leaves the log as it was. Of the kept states
+// only the room is looked at.
 #[no_mangle]
-pub extern "C" fn press_start(list: &[u8], b: u8, resets: &[u8], log: &mut [u8]) -> Outcome
-    ensures { λ r. ⌜ StartPromise (now (list .entry)) b (now (resets .entry)) (record { log = now (log .entry) }) r (record { log = now (log .exit) }) ⌝ }
+pub extern "C" fn press_start(
+    list: &[u8],
+    b: u8,
+    resets: &[u8],
+    log: &mut [u8],
+    kept: &[u8],
+) -> Outcome
+    ensures { λ r. ⌜ StartPromise (now (list .entry)) b (now (resets .entry)) (record { log = now (log .entry); kept = now (kept .entry) }) r (record { log = now (log .exit); kept = now (kept .entry) }) ⌝ }
 {
-    run::start(list, b, resets, log)
+    run::start(list, b, resets, log, kept)
 }
 
-// One step of a state handed over: the state after it, and its record in the log. A refusal answers the state given and leaves the log as it
-// was.
+// One step of a state handed over: the state after it, its record in the log, and at a multiple of 64 the state in its kept place. A refusal
+// answers the state given and leaves both buffers as they were.
 #[no_mangle]
 pub extern "C" fn press_step(
     state: State,
     list: &[u8],
     log: &mut [u8],
+    kept: &mut [u8],
     station: u8,
     reset: u8,
 ) -> Outcome
-    ensures { λ r. ⌜ StepPromise (now (list .entry)) (as-state state) (record { log = now (log .entry) }) (record { station = station; reset = reset }) r (record { log = now (log .exit) }) ⌝ }
+    ensures { λ r. ⌜ StepPromise (now (list .entry)) (as-state state) (record { log = now (log .entry); kept = now (kept .entry) }) (record { station = station; reset = reset }) r (record { log = now (log .exit); kept = now (kept .exit) }) ⌝ }
 {
-    state.step(list, log, station, reset)
+    state.step(list, log, kept, station, reset)
 }
 
-// One step of a state lent: the state after it in the same place, and its record in the log. A refusal leaves the state and the log as they
-// were.
+// One step of a state lent: the state after it in the same place, its record in the log, and at a multiple of 64 the state in its kept place. A
+// refusal leaves all three as they were.
 #[no_mangle]
 pub extern "C" fn press_advance(
     state: &mut State,
     list: &[u8],
     log: &mut [u8],
+    kept: &mut [u8],
     station: u8,
     reset: u8,
 ) -> u8
-    ensures { λ r. ⌜ AdvancePromise (now (list .entry)) (as-state (now (state .entry))) (record { log = now (log .entry) }) (record { station = station; reset = reset }) r (now (state .exit)) (record { log = now (log .exit) }) ⌝ }
+    ensures { λ r. ⌜ AdvancePromise (now (list .entry)) (as-state (now (state .entry))) (record { log = now (log .entry); kept = now (kept .entry) }) (record { station = station; reset = reset }) r (now (state .exit)) (record { log = now (log .exit); kept = now (kept .exit) }) ⌝ }
 {
-    lent::advance(state, list, log, station, reset)
+    lent::advance(state, list, log, kept, station, reset)
 }
 
-// The steps of the picks, until one is refused, the picks end or the most-steps number is reached, with their records in the log. A refused
-// step writes nothing, and those before it stand.
+// The steps of the picks, until one is refused, the picks end or the most-steps number is reached, with their records in the log and the states
+// that they keep. A refused step writes nothing, and those before it stand.
 #[no_mangle]
 pub extern "C" fn press_run(
     state: State,
     list: &[u8],
     log: &mut [u8],
+    kept: &mut [u8],
     picks: &[u8],
     most: usize,
 ) -> Ran
-    ensures { λ r. ⌜ RunPromise (now (list .entry)) (as-state state) (record { log = now (log .entry) }) (now (picks .entry)) most r (record { log = now (log .exit) }) ⌝ }
+    ensures { λ r. ⌜ RunPromise (now (list .entry)) (as-state state) (record { log = now (log .entry); kept = now (kept .entry) }) (now (picks .entry)) most r (record { log = now (log .exit); kept = now (kept .exit) }) ⌝ }
 {
-    state.run(list, log, picks, most)
+    state.run(list, log, kept, picks, most)
 }
 
-// The state before the last step, by the log, which stays. A refusal answers the state given.
+// The state before the last step, by the log and the kept states, which stay. A refusal answers the state given.
 #[no_mangle]
-pub extern "C" fn press_undo(state: State, list: &[u8], log: &[u8]) -> Outcome
-    ensures { λ r. ⌜ UndoPromise (now (list .entry)) (as-state state) (record { log = now (log .entry) }) r ⌝ }
+pub extern "C" fn press_undo(state: State, list: &[u8], log: &[u8], kept: &[u8]) -> Outcome
+    ensures { λ r. ⌜ UndoPromise (now (list .entry)) (as-state state) (record { log = now (log .entry); kept = now (kept .entry) }) r ⌝ }
 {
-    state.undo(list, log)
+    state.undo(list, log, kept)
 }
 
 // Whether a station is ready, has ended or is waiting, as the number that stands for it, and where it waits. Refused, the number and place 0.

@@ -23,13 +23,20 @@ pub fn wrong(picks: &[u8]) -> bool
 }
 
 // One pick: (255, 0) takes the last step back, any other is a step.
-pub fn taken(state: State, list: &[u8], log: &mut [u8], station: u8, reset: u8) -> Outcome
-    ensures { λ r. ⌜ as-stepped r (record { log = now (log .exit) }) ≡ taken-pick (now (list .entry)) (as-state state) (record { log = now (log .entry) }) (record { station = station; reset = reset }) ⌝ }
+pub fn taken(
+    state: State,
+    list: &[u8],
+    log: &mut [u8],
+    kept: &mut [u8],
+    station: u8,
+    reset: u8,
+) -> Outcome
+    ensures { λ r. ⌜ as-stepped r (record { log = now (log .exit); kept = now (kept .exit) }) ≡ taken-pick (now (list .entry)) (as-state state) (record { log = now (log .entry); kept = now (kept .entry) }) (record { station = station; reset = reset }) ⌝ }
 {
     if station == UNDO {
         if reset == 0 {
-            return state.undo(list, log);
+            return state.undo(list, log, kept);
         }
     }
-    state.step(list, log, station, reset)
+    state.step(list, log, kept, station, reset)
 }

@@ -3,7 +3,7 @@ ghost use mathlib.Core.Path.{_≡_};
 ghost use mathlib.Core.List.{[], _∷_};
 ghost use Rattle.rules.specs.Names.{STATION, SKIP, SET, IF, ELSE, FI, WHILE, OD, AWAIT, END, INIT, STOP};
 ghost use Rattle.rules.specs.Names.{LENGTH, FIELD, COUNT, SHAPE, DEPTH, ROOM, LIST, STATE, FULL, COMPONENT, NOT-READY, TURN, RESET, EMPTY, LOG, ENDED};
-ghost use Rattle.rules.specs.Names.{max-records, max-stations, max-depth, variables, max-list, max-steps, no-station};
+ghost use Rattle.rules.specs.Names.{max-records, max-stations, max-depth, variables, max-list, max-steps, kept-every, max-kept, kept-length, no-station};
 use crate::Record;
 
 impl Record {
@@ -84,6 +84,15 @@ impl Record {
     // Standing steps, at most.
     pub const MAX_STEPS: u16 = 4096;
 
+    // Steps from one kept state to the next.
+    pub const KEPT_EVERY: u16 = 64;
+
+    // Kept states.
+    pub const MAX_KEPT: usize = 64;
+
+    // Bytes of a kept state.
+    pub const KEPT_LENGTH: usize = 184;
+
     // The station byte of a list's initial part.
     pub const NO_STATION: u8 = 255;
 
@@ -132,8 +141,8 @@ impl Record {
     }
 
     // The limits in order: the code's numbers are the document's.
-    pub fn limits() -> [usize; 7]
-        ensures { λ r. ⌜ r ≡ max-records ∷ max-stations ∷ max-depth ∷ variables ∷ max-list ∷ max-steps ∷ no-station ∷ [] ⌝ }
+    pub fn limits() -> [usize; 10]
+        ensures { λ r. ⌜ r ≡ max-records ∷ max-stations ∷ max-depth ∷ variables ∷ max-list ∷ max-steps ∷ kept-every ∷ max-kept ∷ kept-length ∷ no-station ∷ [] ⌝ }
     {
         [
             Record::MAX_RECORDS,
@@ -142,6 +151,9 @@ impl Record {
             Record::VARIABLES,
             Record::MAX_LIST,
             Record::MAX_STEPS as usize,
+            Record::KEPT_EVERY as usize,
+            Record::MAX_KEPT,
+            Record::KEPT_LENGTH,
             Record::NO_STATION as usize,
         ]
     }

@@ -9,8 +9,8 @@ use mathlib.Core.List.{List, [], _∷_, _++_}
 use mathlib.Core.Option.{Option, none, some}
 use lib.ListN.{length, take, replicate}
 use lib.IntN.{ℤ, pos, negsuc}
-use Rattle.rules.specs.Words.{Answer, answer, each, first, tally, mask, values, changed, written, judge}
-use Rattle.rules.specs.Names.{LENGTH, FIELD, SHAPE, COMPONENT, NOT-READY, TURN, RESET, ENDED, STATION, SKIP, SET, IF, ELSE, FI, WHILE, OD, AWAIT, END, variables, max-stations}
+use Rattle.rules.specs.Words.{Answer, answer, each, first, tally, mask, values, changed, joined, written, judge}
+use Rattle.rules.specs.Names.{LENGTH, FIELD, SHAPE, COMPONENT, NOT-READY, TURN, RESET, ENDED, STATION, SKIP, SET, IF, ELSE, FI, WHILE, OD, AWAIT, END, variables, max-stations, max-kept, kept-length}
 use Rattle.rules.specs.Records.{record-from, record-at, record-count, word-bytes, list-record-at}
 use Rattle.rules.specs.Fields.{rules-of, fields-right}
 use Rattle.rules.specs.Shape.{stride, wrong-at, walked, well-shaped, too-deep-at}
@@ -24,12 +24,14 @@ use Rattle.rules.specs.Start.{initial-run, started, start-records, start
 use Rattle.rules.specs.Ready.{readiness-at, readiness, ended, waiting, ready, lowest}
 use Rattle.rules.specs.Move.{body-run, step-vars, step-position}
 use Rattle.rules.specs.Step.{charge, stepped, picked, step}
-use Rattle.rules.specs.Undo.{replay, starts-right, replayed, undo}
+use Rattle.rules.specs.Kept.{encoded, kept-state, kept-zeros, kept-right, keep}
+use Rattle.rules.specs.Run.{steps-from, run}
+use Rattle.rules.specs.Undo.{replay, starts-right, restarted, replayed-near, undo}
 use Rattle.rules.specs.Asked.{asked}
 use Rattle.rules.specs.Lights.{reads, writes, led-to, body, some-of, touches, lights}
 use Rattle.rules.specs.Trace.{decimal-digits, priorities-text, line, end-line, taken-pick, picks-text, run-text, start-text, trace}
 use Rattle.rules.specs.Calls.{ruled}
-use Rattle.rules.specs.History.{Call, START, STEP, UNDO, Steps, height, Now, stepped-on, called, calls-from, answered}
+use Rattle.rules.specs.History.{Call, START, STEP, RUN, UNDO, Steps, height, Now, stepped-on, single-steps, called, calls-from, answered}
 use Rattle.rules.specs.Passed.{passed-over}
 
 infixr 5 _and_
@@ -45,12 +47,16 @@ plain kind = eight kind 0 0 0 0
 abbrev list-made : List ℕ → List ℕ
 list-made file = let built = build file (replicate (16 * (record-count file + max-stations)) 0) in take (16 * built .count) (built .buffer)
 
--- a log with room for ten steps, whose bytes are none that a call writes; and a caller with no state yet
+-- a log with room for ten steps, and one for seventy, whose bytes are none that a call writes; so too the kept states, and a caller with no state
+-- yet
 abbrev junk : List ℕ
 junk = replicate 24 7
 
 abbrev fresh : Now
-fresh = record { state = zeros; lent = record { log = junk }; standing = none }
+fresh = record { state = zeros; lent = record { log = junk; kept = replicate (kept-length * max-kept) 7 }; standing = none }
+
+abbrev fresh-long : Now
+fresh-long = record { state = zeros; lent = record { log = replicate 142 7; kept = fresh .lent .kept }; standing = none }
 
 -- what a call answers: its number, and the last state answered after it
 record Answered : Type 0 where
@@ -107,6 +113,8 @@ data Row : Type 0 where
   lists : List ℕ → ℕ → List ℕ → Row
   -- a file, and calls on its list; what each of them answers
   plays : List ℕ → List Call → List Answered → Row
+  -- the same with a long log
+  plays-long : List ℕ → List Call → List Answered → Row
   -- a file, and calls on its list; how many steps stand after them
   leaves : List ℕ → List Call → ℕ → Row
   -- a file, calls on its list, and a station; how often it was ready and passed over in the steps that stand after them
@@ -126,6 +134,7 @@ Holds (right bytes answer) = fields-right (record-at bytes 0) ≡ answer
 Holds (lists file count bytes) =
     build file (replicate (16 * count) 7 ++ junk) ≡ record { number = 0; place = 0; count = count; buffer = bytes ++ junk }
 Holds (plays file cs rows) = answers (list-made file) fresh cs ≡ rows
+Holds (plays-long file cs rows) = answers (list-made file) fresh-long cs ≡ rows
 Holds (leaves file cs count) = height-of (calls-from ruled (list-made file) fresh cs .standing) ≡ count
 Holds (passes file cs j times) = passed-in (list-made file) j (calls-from ruled (list-made file) fresh cs .standing) ≡ times
 Holds (passes-most file b resets cs j) =
@@ -160,6 +169,17 @@ abbrev feeder : List ℕ
 feeder =
     plain STATION ++ eight SET 0 0 0 1
     ++ plain STATION ++ eight AWAIT 0 0 5 1 ++ eight SET 2 3 1 0 ++ plain END
+
+-- ours: STATION; WHILE v0 = v0; SET v0 := v0+1; OD
+abbrev counter : List ℕ
+counter = plain STATION ++ eight WHILE 0 0 4 0 ++ eight SET 0 0 2 1 ++ plain OD
+
+-- its states at the WHILE, and at the SET: what v0 has come to, the priority and the steps
+abbrev at-while : ℕ → ℕ → ℕ → State
+at-while v priority m = stands (v ∷ []) (1 ∷ []) (pos priority ∷ []) 1 m
+
+abbrev at-set : ℕ → ℕ → ℕ → State
+at-set v priority m = stands (v ∷ []) (2 ∷ []) (pos priority ∷ []) 1 m
 
 -- Dryer's states with no step, one step and two
 abbrev dryer-0 : State
@@ -260,6 +280,13 @@ table =
     (goes dryer-0 ∷ goes dryer-1 ∷ goes dryer-2 ∷ goes dryer-1 ∷ goes dryer-0 ∷ [])
     -- ours: and then none stands
     ∷ leaves dryer (START 0 (0 ∷ 0 ∷ []) ∷ pick 0 0 ∷ pick 1 0 ∷ UNDO ∷ UNDO ∷ []) 0
+    -- ours: 66 steps, and back past the 64th, over a buffer of junk: each undo gives back the whole state before the step
+    ∷ plays-long counter (START 1 (0 ∷ []) ∷ RUN (replicate 132 0) 99 ∷ UNDO ∷ UNDO ∷ UNDO ∷ [])
+    (goes (at-while 0 0 0) ∷ goes (at-while 33 0 66) ∷ goes (at-set 32 0 65) ∷ goes (at-while 32 0 64) ∷ goes (at-set 31 0 63) ∷ [])
+    -- ours: then the 64th step is taken with another reset, and an undo of the 65th gives back that one's state
+    ∷ plays-long counter (START 1 (0 ∷ []) ∷ RUN (replicate 130 0) 99 ∷ UNDO ∷ UNDO ∷ pick 0 1 ∷ pick 0 0 ∷ UNDO ∷ [])
+    (goes (at-while 0 0 0) ∷ goes (at-set 32 0 65) ∷ goes (at-while 32 0 64) ∷ goes (at-set 31 0 63) ∷ goes (at-while 32 1 64)
+    ∷ goes (at-set 32 0 65) ∷ goes (at-while 32 1 64) ∷ [])
     -- ours: "A refused start's zeros don't count as a state answered"
     ∷ plays dryer (START 0 (0 ∷ 0 ∷ []) ∷ pick 0 0 ∷ START 0 [] ∷ []) (goes dryer-0 ∷ goes dryer-1 ∷ refused RESET dryer-1 ∷ [])
     -- "Dryer" with picks (0,0) (1,0) (255,0) (255,0) prints: 0 1 1 0 0; 1 2 2 0 0; 2 0 0 0 0; 1 2 2 0 0; 0 1 1 0 0; end 0
@@ -278,7 +305,7 @@ table =
     ∷ []
 
 all-hold : Every table
-unfolding each first tally mask values changed written judge record-from list-record-at rules-of fields-right stride wrong-at walked well-shaped too-deep-at check wrong-length field-place station-count depth-place parts-of stations-of leading-sets initial-part size laid inits bodies list-of bytes-of build stations initials-after is-at init-right initial-right outside-targets inside-target inside-targets later-right sound-list few-low empty-at sound-state set-value holds initial-run started start-records start readiness-at readiness ended waiting ready lowest body-run step-vars step-position charge stepped picked step replay starts-right replayed undo asked reads writes led-to body some-of touches lights decimal-digits priorities-text line end-line taken-pick picks-text run-text start-text trace stepped-on called calls-from answers passed-over
+unfolding each first tally mask values changed joined written judge record-from list-record-at rules-of fields-right stride wrong-at walked well-shaped too-deep-at check wrong-length field-place station-count depth-place parts-of stations-of leading-sets initial-part size laid inits bodies list-of bytes-of build stations initials-after is-at init-right initial-right outside-targets inside-target inside-targets later-right sound-list few-low empty-at sound-state set-value holds initial-run started start-records start readiness-at readiness ended waiting ready lowest body-run step-vars step-position charge stepped picked encoded kept-state kept-zeros kept-right keep step steps-from run replay starts-right restarted replayed-near undo asked reads writes led-to body some-of touches lights decimal-digits priorities-text line end-line taken-pick picks-text run-text start-text trace stepped-on single-steps called calls-from answers passed-over
 all-hold =
     refl and refl and refl and refl and refl and refl and refl and refl and refl and refl
-    and refl and refl and refl and refl and refl and refl and refl and refl and refl and refl and refl and refl and refl and refl and refl and refl and refl and refl and refl and refl and refl and refl and refl and refl and done
+    and refl and refl and refl and refl and refl and refl and refl and refl and refl and refl and refl and refl and refl and refl and refl and refl and refl and refl and refl and refl and refl and refl and refl and refl and refl and refl and done

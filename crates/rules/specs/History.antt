@@ -47,6 +47,11 @@ abbrev pub height : Steps → ℕ
 height (begun b resets s) = 0
 height (taken steps p s) = suc (height steps)
 
+-- the state with just so many of them standing
+unfoldable pub state-at : Steps → ℕ → State
+state-at (begun b resets s) k = s
+state-at (taken steps p s) k = if eqb k (suc (height steps)) then s else state-at steps k
+
 -- the log records of a start and of the steps on it
 unfoldable pub spelled : Steps → List ℕ
 spelled (begun b resets s) = start-records 0 resets

@@ -10,6 +10,7 @@ pub mod Build
 pub mod List
 pub mod State
 pub mod Lent
+pub mod Kept
 pub mod Values
 pub mod Start
 pub mod Turn

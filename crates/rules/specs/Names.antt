@@ -113,6 +113,18 @@ max-list = 1032
 abbrev pub max-steps : ℕ
 max-steps = 4096
 
+-- steps from one kept state to the next
+abbrev pub kept-every : ℕ
+kept-every = 64
+
+-- kept states, the last of them after so many times as many steps
+abbrev pub max-kept : ℕ
+max-kept = 64
+
+-- bytes of a kept state
+abbrev pub kept-length : ℕ
+kept-length = 184
+
 -- the station byte of the list's initial part
 abbrev pub no-station : ℕ
 no-station = 255

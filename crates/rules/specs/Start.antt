@@ -12,6 +12,7 @@ use Rattle.rules.specs.List.{stations, initials, sound-list}
 use Rattle.rules.specs.Values.{assigned}
 use Rattle.rules.specs.State.{State, stepless, zeros}
 use Rattle.rules.specs.Lent.{Lent}
+use Rattle.rules.specs.Kept.{kept-short}
 
 -- variables "begin at 0": so many initial records are run, from a place on
 unfoldable pub initial-run : List ℕ → ℕ → ℕ → List ℕ → List ℕ
@@ -34,9 +35,9 @@ unfoldable pub start-records : ℕ → List ℕ → List ℕ
 start-records j [] = []
 start-records j (reset ∷ resets) = j ∷ reset ∷ start-records (suc j) resets
 
--- START writes them at the log's beginning
+-- START writes them at the log's beginning, and nothing of the kept states
 abbrev pub with-starts : Lent → List ℕ → Lent
-with-starts lent resets = record { log = written (lent .log) 0 (start-records 0 resets) }
+with-starts lent resets = record { log = written (lent .log) 0 (start-records 0 resets); kept = lent .kept }
 
 pub record Started : Type 0 where
   pub number : ℕ
@@ -47,12 +48,14 @@ pub record Started : Type 0 where
 abbrev pub wrong-resets : List ℕ → ℕ → List ℕ → Bool
 wrong-resets list b resets = not (eqb (length resets) (stations list)) || not (each (λ j. leb (getD resets j 0) b) (length resets))
 
--- "START takes the list, B, exactly n reset bytes and a log buffer." Its order is 7, 13, 6
+-- "START takes the list, B, exactly n reset bytes and a log buffer", and the kept states' buffer. Its order is 7, 13, 6, and document 02's 6
+-- "after the log's"
 abbrev pub start-tests : List ℕ → ℕ → List ℕ → Lent → List Test
 start-tests list b resets lent =
     (not (sound-list list) refuses LIST at 0)
     ∷ (wrong-resets list b resets refuses RESET at 0)
     ∷ (ltb (length (lent .log)) (2 * stations list) refuses ROOM at 0)
+    ∷ (kept-short (lent .kept) refuses ROOM at 0)
     ∷ []
 
 -- "A refusal answers its number and … (start and lights: all zeros) and writes to no lent buffer"

@@ -1,4 +1,5 @@
--- One step: a pick, its tests in their order, the move of its station, FAIR's charge, and its record in the log. These are definitions.
+-- One step: a pick, its tests in their order, the move of its station, FAIR's charge, its record in the log and the state that is kept. These
+-- are definitions.
 use Prim.Native.Nat.{ℕ, _+_, _*_}
 use mathlib.Core.Bool.{not}
 use mathlib.Core.List.{List, [], _∷_, _++_}
@@ -11,6 +12,7 @@ use Rattle.rules.specs.Records.{Pick, pick-bytes}
 use Rattle.rules.specs.List.{sound-list}
 use Rattle.rules.specs.State.{State, one-step-on, sound-state}
 use Rattle.rules.specs.Lent.{Lent}
+use Rattle.rules.specs.Kept.{kept-short, keep}
 use Rattle.rules.specs.Turn.{charge-of}
 use Rattle.rules.specs.Ready.{ready, ended, waiting, lowest}
 use Rattle.rules.specs.Move.{moved}
@@ -45,12 +47,16 @@ picked list s p =
     let number = refusal (pick-tests list s p) in
     if eqb number 0 then record { number = 0; state = stepped list s p } else record { number = number; state = s }
 
--- the room for one step more, in the steps and in what is lent: 9, 6
+-- the room for one step more, in the steps and in what is lent: 9, 6, 6
 abbrev pub room-tests : State → Lent → List Test
 room-tests s lent =
-    (eqb (s .m) max-steps refuses FULL at 0) ∷ (ltb (length (lent .log)) (2 * (s .n + s .m + 1)) refuses ROOM at 0) ∷ []
+    (eqb (s .m) max-steps refuses FULL at 0)
+    ∷ (ltb (length (lent .log)) (2 * (s .n + s .m + 1)) refuses ROOM at 0)
+    ∷ (kept-short (lent .kept) refuses ROOM at 0)
+    ∷ []
 
--- "Step's order is 7, 8, 9, 6, 10, 11, 12, 13", with document 02's 16 "just before 11": what is tested before the pick
+-- "Step's order is 7, 8, 9, 6, 10, 11, 12, 13", with document 02's 16 "just before 11" and its 6 "after the log's": what is tested before the
+-- pick
 abbrev pub before-pick : List ℕ → State → Lent → List Test
 before-pick list s lent =
     (not (sound-list list) refuses LIST at 0) ∷ (not (sound-state list s) refuses STATE at 0) ∷ room-tests s lent
@@ -64,14 +70,15 @@ pub record Stepped : Type 0 where
   pub state : State
   pub lent : Lent
 
--- "one per step at byte 2(n+m)"
-abbrev pub with-pick : Lent → State → Pick → Lent
-with-pick lent s p = record { log = written (lent .log) (2 * (s .n + s .m)) (pick-bytes p) }
+-- "one per step at byte 2(n+m)", and the state after the step in its kept place, where it has one
+abbrev pub with-step : Lent → State → Pick → State → Lent
+with-step lent s p after =
+    record { log = written (lent .log) (2 * (s .n + s .m)) (pick-bytes p); kept = keep (lent .kept) after }
 
 -- "A refusal answers its number and the state given … and writes to no lent buffer"
 unfoldable pub step : List ℕ → State → Lent → Pick → Stepped
 step list s lent p =
     let number = refusal (step-tests list s lent p) in
     if eqb number 0
-    then record { number = 0; state = picked list s p .state; lent = with-pick lent s p }
+    then record { number = 0; state = picked list s p .state; lent = with-step lent s p (picked list s p .state) }
     else record { number = number; state = s; lent = lent }

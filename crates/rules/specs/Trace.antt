@@ -6,7 +6,7 @@ use lib.Dec.{eqb, ltb}
 use lib.ListN.{length, take, replicate}
 use lib.IntN.{ℤ, pos, negsuc}
 use Rattle.rules.specs.Words.{if_then_else_}
-use Rattle.rules.specs.Names.{LENGTH, RESET, max-list, max-stations, max-steps, undo-station}
+use Rattle.rules.specs.Names.{LENGTH, RESET, max-list, max-stations, max-steps, max-kept, kept-length, undo-station}
 use Rattle.rules.specs.Records.{Pick, pick-at}
 use Rattle.rules.specs.Build.{build}
 use Rattle.rules.specs.State.{State, priority}
@@ -69,11 +69,15 @@ unfoldable pub run-text : List ℕ → List ℕ → State → Lent → List ℕ
 run-text list picks s lent =
     line list s ++ (if wrong-picks picks then end-line LENGTH else picks-text list picks 0 (length picks / 2) s lent)
 
+-- its own log and kept states
+abbrev pub own-buffers : Lent
+own-buffers = record { log = replicate (2 * (max-stations + max-steps)) 0; kept = replicate (kept-length * max-kept) 0 }
+
 -- "start.rec (B, then resets)"; "no B: 13"
 unfoldable pub start-text : List ℕ → List ℕ → List ℕ → List ℕ
 start-text list [] picks = end-line RESET
 start-text list (b ∷ resets) picks =
-    let a = start list b resets (record { log = replicate (2 * (max-stations + max-steps)) 0 }) in
+    let a = start list b resets own-buffers in
     if eqb (a .number) 0 then run-text list picks (a .state) (a .lent) else end-line (a .number)
 
 -- "Program refusals come first"; "Its own list and log buffers are never short"

@@ -50,6 +50,11 @@ module _ {A : Type 0} where
   changed f (suc n) [] = []
   changed f (suc n) (x ∷ xs) = f 0 x ∷ changed (λ i. f (suc i)) n xs
 
+-- what each entry is spelled by, one after another
+unfoldable pub joined : {A : Type 0} → (A → List ℕ) → List A → List ℕ
+joined spell [] = []
+joined spell (x ∷ xs) = spell x ++ joined spell xs
+
 -- the bytes put into a buffer at an offset; its other bytes stay
 unfoldable pub written : List ℕ → ℕ → List ℕ → List ℕ
 written buffer offset bytes = take offset buffer ++ (bytes ++ drop (offset + length bytes) buffer)

@@ -1,11 +1,9 @@
 // Where a run begins: START, and the state of a log's start records, from which undo replays too.
 ghost use mathlib.Core.Path.{_≡_};
 ghost use mathlib.Core.Bool.{true};
-ghost use Rattle.rules.specs.Words.{values};
-ghost use Rattle.rules.specs.Records.{pick-at};
-ghost use Rattle.rules.specs.List.{stations, sound-list};
+ghost use Rattle.rules.specs.List.{sound-list};
 ghost use Rattle.rules.specs.State.{zeros};
-ghost use Rattle.rules.specs.Start.{started};
+ghost use Rattle.rules.specs.Undo.{restarted};
 ghost use Rattle.run.specs.View.{as-state};
 ghost use Rattle.run.specs.Promises.{StartPromise};
 use crate::Outcome;
@@ -29,9 +27,9 @@ impl State {
 }
 
 // The start of a run, with a reset for each station and b the largest reset from then on. It writes a start record for each station to the
-// log; a refusal answers a state of zeros and writes nothing.
-pub fn start(list: &[u8], b: u8, resets: &[u8], log: &mut [u8]) -> Outcome
-    ensures { λ r. ⌜ StartPromise (now (list .entry)) b (now (resets .entry)) (record { log = now (log .entry) }) r (record { log = now (log .exit) }) ⌝ }
+// log, and nothing of the kept states; a refusal answers a state of zeros and writes nothing.
+pub fn start(list: &[u8], b: u8, resets: &[u8], log: &mut [u8], kept: &[u8]) -> Outcome
+    ensures { λ r. ⌜ StartPromise (now (list .entry)) b (now (resets .entry)) (record { log = now (log .entry); kept = now (kept .entry) }) r (record { log = now (log .exit); kept = now (kept .entry) }) ⌝ }
 {
     if !list::sound(list) {
         return refused(Record::LIST);
@@ -43,9 +41,13 @@ pub fn start(list: &[u8], b: u8, resets: &[u8], log: &mut [u8]) -> Outcome
     if !starts::resets_within(resets, b) {
         return refused(Record::RESET);
     }
-    if !starts::write(log, resets) {
+    if log.len() < 2 * n {
         return refused(Record::ROOM);
     }
+    if kept.len() < Record::KEPT_LENGTH * Record::MAX_KEPT {
+        return refused(Record::ROOM);
+    }
+    starts::write(log, resets);
     Outcome {
         number: 0,
         state: begun(list, b, log),
@@ -65,7 +67,7 @@ fn refused(number: u8) -> Outcome
 // The state with no steps, by the start records of a log.
 pub(crate) fn begun(list: &[u8], b: u8, log: &[u8]) -> State
     requires { ⌜ sound-list (now list) ≡ true ⌝ }
-    ensures { λ r. ⌜ as-state r ≡ started (now (list .entry)) b (values (λ j. pick-at (now (log .entry)) j .reset) (stations (now (list .entry)))) ⌝ }
+    ensures { λ r. ⌜ as-state r ≡ restarted (now (list .entry)) (now (log .entry)) b ⌝ }
 {
     let n = list::stations(list);
     let initials = list::later(list, n) - n;

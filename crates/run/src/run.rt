@@ -23,8 +23,8 @@ fn least(a: usize, b: usize) -> usize
 impl State {
     // The steps of the picks, two bytes each, until one is refused, the picks end or the most-steps number is reached. The list and the
     // state are tested once.
-    pub fn run(self, list: &[u8], log: &mut [u8], picks: &[u8], most: usize) -> Ran
-        ensures { λ r. ⌜ RunPromise (now (list .entry)) (as-state self) (record { log = now (log .entry) }) (now (picks .entry)) most r (record { log = now (log .exit) }) ⌝ }
+    pub fn run(self, list: &[u8], log: &mut [u8], kept: &mut [u8], picks: &[u8], most: usize) -> Ran
+        ensures { λ r. ⌜ RunPromise (now (list .entry)) (as-state self) (record { log = now (log .entry); kept = now (kept .entry) }) (now (picks .entry)) most r (record { log = now (log .exit); kept = now (kept .exit) }) ⌝ }
     {
         if picks.len() % 2 == 1 {
             return Ran {
@@ -47,13 +47,20 @@ impl State {
                 steps: 0,
             };
         }
-        self.single_steps(list, log, picks, least(most, picks.len() / 2))
+        self.single_steps(list, log, kept, picks, least(most, picks.len() / 2))
     }
 
     // So many steps, by the first of the picks, on a list and a state that are sound.
-    fn single_steps(mut self, list: &[u8], log: &mut [u8], picks: &[u8], count: usize) -> Ran
+    fn single_steps(
+        mut self,
+        list: &[u8],
+        log: &mut [u8],
+        kept: &mut [u8],
+        picks: &[u8],
+        count: usize,
+    ) -> Ran
         requires { ⌜ Known (now list) (as-state self) × (2 * count ≤ length (now picks)) ⌝ }
-        ensures { λ r. ⌜ as-ran r (record { log = now (log .exit) }) ≡ steps-from (now (list .entry)) (now (picks .entry)) 0 count (as-state self) (record { log = now (log .entry) }) ⌝ }
+        ensures { λ r. ⌜ as-ran r (record { log = now (log .exit); kept = now (kept .exit) }) ≡ steps-from (now (list .entry)) (now (picks .entry)) 0 count (as-state self) (record { log = now (log .entry); kept = now (kept .entry) }) ⌝ }
     {
         let mut positions = self.positions;
         let mut priorities = self.priorities;
@@ -72,6 +79,7 @@ impl State {
                 b,
                 m,
                 log,
+                kept,
                 picks[at],
                 picks[at + 1],
             );

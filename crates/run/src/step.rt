@@ -6,9 +6,17 @@ use crate::State;
 use record::Record;
 
 impl State {
-    // One step, by the pick of a station and its reset. A step taken writes its record to the log; a refusal writes nothing.
-    pub fn step(mut self, list: &[u8], log: &mut [u8], station: u8, reset: u8) -> Outcome
-        ensures { λ r. ⌜ StepPromise (now (list .entry)) (as-state self) (record { log = now (log .entry) }) (record { station = station; reset = reset }) r (record { log = now (log .exit) }) ⌝ }
+    // One step, by the pick of a station and its reset. A step taken writes its record to the log and, where it reaches a multiple of 64, the
+    // state after it to its kept place; a refusal writes nothing.
+    pub fn step(
+        mut self,
+        list: &[u8],
+        log: &mut [u8],
+        kept: &mut [u8],
+        station: u8,
+        reset: u8,
+    ) -> Outcome
+        ensures { λ r. ⌜ StepPromise (now (list .entry)) (as-state self) (record { log = now (log .entry); kept = now (kept .entry) }) (record { station = station; reset = reset }) r (record { log = now (log .exit); kept = now (kept .exit) }) ⌝ }
     {
         if !list::sound(list) {
             return Outcome {
@@ -36,6 +44,7 @@ impl State {
             b,
             m,
             log,
+            kept,
             station,
             reset,
         );

@@ -1,7 +1,7 @@
 // Bytes of the trace program's files and buffers.
 ghost use mathlib.Core.Path.{_≡_};
 ghost use mathlib.Core.List.{[], _∷_};
-ghost use Rattle.sizes.specs.Sizes.{enough, enough-starts, list-bytes, log-bytes};
+ghost use Rattle.sizes.specs.Sizes.{enough, enough-starts, list-bytes, log-bytes, kept-bytes};
 use record::Record;
 
 // Bytes that are enough of a program or a picks file, and of a start file: one more than it may have, so that a longer one is noticed.
@@ -9,14 +9,16 @@ pub const ENOUGH: usize = 8 * Record::MAX_RECORDS + 1;
 
 pub const ENOUGH_STARTS: usize = 1 + Record::MAX_STATIONS + 1;
 
-// Bytes of the longest list, and of the longest log.
+// Bytes of the longest list, of the longest log, and of the kept states.
 pub const LIST_BYTES: usize = 16 * Record::MAX_LIST;
 
 pub const LOG_BYTES: usize = 2 * (Record::MAX_STATIONS + Record::MAX_STEPS as usize);
 
+pub const KEPT_BYTES: usize = Record::KEPT_LENGTH * Record::MAX_KEPT;
+
 // These numbers in order: they are those of the definitions.
-pub fn all() -> [usize; 4]
-    ensures { λ r. ⌜ r ≡ enough ∷ enough-starts ∷ list-bytes ∷ log-bytes ∷ [] ⌝ }
+pub fn all() -> [usize; 5]
+    ensures { λ r. ⌜ r ≡ enough ∷ enough-starts ∷ list-bytes ∷ log-bytes ∷ kept-bytes ∷ [] ⌝ }
 {
-    [ENOUGH, ENOUGH_STARTS, LIST_BYTES, LOG_BYTES]
+    [ENOUGH, ENOUGH_STARTS, LIST_BYTES, LOG_BYTES, KEPT_BYTES]
 }

@@ -26,10 +26,10 @@ fn print(text: Text) -> bool {
 }
 
 // Prints a trace piece by piece, until all is printed or nothing more can be written.
-fn print_all(first: Tracer, list: &[u8], log: &mut [u8], picks: &[u8]) {
+fn print_all(first: Tracer, list: &[u8], log: &mut [u8], kept: &mut [u8], picks: &[u8]) {
     let mut tracer = first;
     while !tracer.done() {
-        let printed = tracer.next(list, log, picks);
+        let printed = tracer.next(list, log, kept, picks);
         let text = printed.text;
         if !print(text) {
             return;
@@ -43,8 +43,9 @@ fn print_all(first: Tracer, list: &[u8], log: &mut [u8], picks: &[u8]) {
 fn trace(program: &[u8], starts: &[u8], picks: &[u8]) {
     let mut list = [0u8; sizes::LIST_BYTES];
     let mut log = [0u8; sizes::LOG_BYTES];
-    let first = tracing::open(program, starts, &mut list, &mut log);
-    print_all(first, &list, &mut log, picks);
+    let mut kept = [0u8; sizes::KEPT_BYTES];
+    let first = tracing::open(program, starts, &mut list, &mut log, &kept);
+    print_all(first, &list, &mut log, &mut kept, picks);
 }
 
 fn main() {

@@ -9,14 +9,14 @@ use lib.Dec.{eqb, leb}
 use lib.ListN.{length, take, replicate}
 use lib.Seq.{take-all, length-take-le}
 use Rattle.rules.specs.Words.{if_then_else_, judge}
-use Rattle.rules.specs.Names.{LENGTH, LIST, RESET, max-list, max-stations, max-steps}
+use Rattle.rules.specs.Names.{LENGTH, LIST, RESET, max-list, max-stations}
 use Rattle.rules.specs.Check.{wrong-length}
 use Rattle.rules.specs.State.{State}
 use Rattle.rules.specs.Lent.{Lent}
 use Rattle.rules.specs.List.{stations, sound-list}
 use Rattle.rules.specs.Build.{Built, build}
 use Rattle.rules.specs.Start.{start}
-use Rattle.rules.specs.Trace.{end-line, line, wrong-picks, run-text, start-text, trace}
+use Rattle.rules.specs.Trace.{own-buffers, end-line, line, wrong-picks, run-text, start-text, trace}
 use Rattle.laws.proofs.Choice.{by-test}
 use Rattle.laws.proofs.Sound.{few-stations}
 use Rattle.sizes.specs.Sizes.{enough, enough-starts}
@@ -72,7 +72,7 @@ started-front list b resets picks lent =
 start-front : (list starts picks : List ℕ) → start-text list (take enough-starts starts) (take enough picks) ≡ start-text list starts picks
 unfolding start-text
 start-front list [] picks = refl
-start-front list (b ∷ resets) picks = started-front list b resets picks (record { log = replicate (2 * (max-stations + max-steps)) 0 })
+start-front list (b ∷ resets) picks = started-front list b resets picks own-buffers
 
 -- a program
 wrong-program : (program : List ℕ) → enough ≤ length program → wrong-length program ≡ true

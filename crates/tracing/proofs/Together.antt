@@ -9,13 +9,13 @@ use borrow.Author.Tests.{ltb-true, ltb-false, eqb-true, le-leb}
 use lib.Dec.{eqb, ltb}
 use lib.ListN.{length, take, replicate}
 use Rattle.rules.specs.Words.{if_then_else_}
-use Rattle.rules.specs.Names.{RESET, max-list, max-stations, max-steps}
+use Rattle.rules.specs.Names.{RESET, max-list, max-stations}
 use Rattle.rules.specs.Records.{pick-at}
 use Rattle.rules.specs.State.{State}
 use Rattle.rules.specs.Lent.{Lent}
 use Rattle.rules.specs.Build.{Built, build}
 use Rattle.rules.specs.Start.{Started, start}
-use Rattle.rules.specs.Trace.{end-line, line, taken-pick, picks-text, wrong-picks, run-text, start-text, trace}
+use Rattle.rules.specs.Trace.{own-buffers, end-line, line, taken-pick, picks-text, wrong-picks, run-text, start-text, trace}
 use Rattle.laws.proofs.Choice.{by-test}
 use Rattle.line.specs.Line.{line-of}
 use Rattle.tracing.specs.Tracing.{Tracing, Piece, Opened, pick-piece, piece, still, printed, left, all-printed, ending, opened, opened-built, opened-by, opened-list}
@@ -165,14 +165,14 @@ ending-says list picks lent number = refl
 
 -- with the list built
 listed-says : (count : ℕ) (list starts picks : List ℕ)
-    → still-from picks (opened-list count list starts (record { log = replicate (2 * (max-stations + max-steps)) 0 })) ≡ start-text (take (16 * count) list) starts picks
+    → still-from picks (opened-list count list starts own-buffers) ≡ start-text (take (16 * count) list) starts picks
 unfolding opened-list start-text
 listed-says count list [] picks = ending-says list picks _ RESET
 listed-says count list (b ∷ resets) picks = started-says count list b resets picks _
 
 -- whatever was built
 built-says : (a : Built) (starts picks : List ℕ)
-    → still-from picks (opened-built a starts (record { log = replicate (2 * (max-stations + max-steps)) 0 }))
+    → still-from picks (opened-built a starts own-buffers)
     ≡ (if eqb (a .number) 0 then start-text (take (16 * a .count) (a .buffer)) starts picks else end-line (a .number))
 built-says a starts picks =
     by-test (eqb (a .number) 0)
@@ -199,5 +199,5 @@ opened-left program starts picks list lent =
 pub traced : Traced
 traced program starts picks turns many =
     let o = fresh-opened program starts in
-    together turns (o .list) picks (o .lent) (o .tracing) (omega (arith, opened-left program starts picks (replicate (16 * max-list) 0) (record { log = replicate (2 * (max-stations + max-steps)) 0 })))
+    together turns (o .list) picks (o .lent) (o .tracing) (omega (arith, opened-left program starts picks (replicate (16 * max-list) 0) own-buffers))
     ∙ begun-says program starts picks

@@ -5,7 +5,7 @@ use mathlib.Core.List.{List, _++_}
 use Prim.Native.Nat.{ℕ, _+_, _/_, _≤_}
 use lib.ListN.{length, take, replicate}
 use Rattle.rules.specs.Trace.{trace}
-use Rattle.sizes.specs.Sizes.{enough, enough-starts, list-bytes, log-bytes}
+use Rattle.sizes.specs.Sizes.{enough, enough-starts, list-bytes, log-bytes, kept-bytes}
 use Rattle.tracing.specs.Tracing.{Tracing, piece, still, Opened, opened, printed}
 use Rattle.rules.specs.Lent.{Lent}
 
@@ -17,7 +17,7 @@ PieceFirst =
 
 -- where the trace of two files begins, in buffers that are never short
 abbrev pub fresh-opened : List ℕ → List ℕ → Opened
-fresh-opened program starts = opened program starts (replicate list-bytes 0) (record { log = replicate log-bytes 0 })
+fresh-opened program starts = opened program starts (replicate list-bytes 0) (record { log = replicate log-bytes 0; kept = replicate kept-bytes 0 })
 
 -- the pieces put together, with two turns more than there are picks, are the rules' trace
 abbrev pub Traced : Type 0

@@ -9,10 +9,10 @@ use crate::Tracer;
 use record::Record;
 use run::State;
 
-// The trace of a program and a start file, whose first byte is B: the list is built into one buffer, and the start records go to the other.
-// A refusal, the program's first, comes next as the last line.
-pub fn open(program: &[u8], starts: &[u8], list: &mut [u8], log: &mut [u8]) -> Tracer
-    ensures { λ r. ⌜ as-opened r (now (list .exit)) (record { log = now (log .exit) }) ≡ opened (now (program .entry)) (now (starts .entry)) (now (list .entry)) (record { log = now (log .entry) }) ⌝ }
+// The trace of a program and a start file, whose first byte is B: the list is built into one buffer, and the start records go to the log. The
+// kept states' buffer is only asked for its room. A refusal, the program's first, comes next as the last line.
+pub fn open(program: &[u8], starts: &[u8], list: &mut [u8], log: &mut [u8], kept: &[u8]) -> Tracer
+    ensures { λ r. ⌜ as-opened r (now (list .exit)) (record { log = now (log .exit); kept = now (kept .entry) }) ≡ opened (now (program .entry)) (now (starts .entry)) (now (list .entry)) (record { log = now (log .entry); kept = now (kept .entry) }) ⌝ }
 {
     let built = build::build(program, list);
     if built.number != 0 {
@@ -21,7 +21,7 @@ pub fn open(program: &[u8], starts: &[u8], list: &mut [u8], log: &mut [u8]) -> T
     if starts.len() == 0 {
         return ending(Record::RESET);
     }
-    let started = run::start(used(list, built.count), starts[0], &starts[1..], log);
+    let started = run::start(used(list, built.count), starts[0], &starts[1..], log, kept);
     if started.number != 0 {
         return ending(started.number);
     }

@@ -37,16 +37,16 @@ impl Tracer {
         }
     }
 
-    // The next piece of the trace. A step taken writes its record to the log.
-    pub fn next(self, list: &[u8], log: &mut [u8], picks: &[u8]) -> Printed
-        ensures { λ r. ⌜ as-piece r (record { log = now (log .exit) }) ≡ piece (now (list .entry)) (now (picks .entry)) (record { log = now (log .entry) }) (as-tracing self) ⌝ }
+    // The next piece of the trace. A step taken writes its record to the log, and keeps the state that it reaches where it has a kept place.
+    pub fn next(self, list: &[u8], log: &mut [u8], kept: &mut [u8], picks: &[u8]) -> Printed
+        ensures { λ r. ⌜ as-piece r (record { log = now (log .exit); kept = now (kept .exit) }) ≡ piece (now (list .entry)) (now (picks .entry)) (record { log = now (log .entry); kept = now (kept .entry) }) (as-tracing self) ⌝ }
     {
         let own = opening::used(list, self.count);
         let state = self.state;
         let next = self.next;
         match next {
             Next::Start => self.print_then(line::of(state, own), after_start(picks)),
-            Next::Pick(i) => self.pick(own, log, picks, i),
+            Next::Pick(i) => self.pick(own, log, kept, picks, i),
             Next::End(number) => self.print_then(end_line(number), Next::Nothing),
             Next::Nothing => self.print_then(Text::empty(), Next::Nothing),
         }
@@ -68,8 +68,8 @@ impl Tracer {
     }
 
     // The piece of the pick at record i: the line after it, or the last line where it is refused or there is none.
-    fn pick(self, list: &[u8], log: &mut [u8], picks: &[u8], i: usize) -> Printed
-        ensures { λ r. ⌜ as-piece r (record { log = now (log .exit) }) ≡ pick-piece (now (list .entry)) (now (picks .entry)) (record { log = now (log .entry) }) (as-tracing self) i ⌝ }
+    fn pick(self, list: &[u8], log: &mut [u8], kept: &mut [u8], picks: &[u8], i: usize) -> Printed
+        ensures { λ r. ⌜ as-piece r (record { log = now (log .exit); kept = now (kept .exit) }) ≡ pick-piece (now (list .entry)) (now (picks .entry)) (record { log = now (log .entry); kept = now (kept .entry) }) (as-tracing self) i ⌝ }
     {
         if picks.len() / 2 <= i {
             return self.print_then(end_line(0), Next::Nothing);
@@ -77,7 +77,7 @@ impl Tracer {
         let at = 2 * i;
         let after = i + 1;
         let given = self.state;
-        let taken = picks::taken(given, list, log, picks[at], picks[at + 1]);
+        let taken = picks::taken(given, list, log, kept, picks[at], picks[at + 1]);
         let state = taken.state;
         let tracer = Tracer {
             state,

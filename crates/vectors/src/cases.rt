@@ -5,6 +5,7 @@ use crate::fields::buffer;
 use crate::fields::byte;
 use crate::fields::field;
 use crate::fields::half;
+use crate::fields::kept_field;
 use crate::fields::long;
 use crate::hash::NONE;
 use crate::hash::after;
@@ -73,7 +74,7 @@ fn build(file: i32) -> bool {
     )
 }
 
-// A case of start: a list, b, the resets and a log. Its line: that of an outcome.
+// A case of start: a list, b, the resets, a log and the kept states. Its line: that of an outcome.
 fn start(file: i32) -> bool {
     let mut list = buffer();
     let mut resets = buffer();
@@ -83,25 +84,30 @@ fn start(file: i32) -> bool {
     let b = byte(file);
     let resets = field(file, &mut resets);
     let log = field(file, &mut log);
-    let started = panel::press_start(list, b, resets, log);
-    outcome(START, started, log)
+    let mut kept = buffer();
+    let kept = kept_field(file, &mut kept);
+    let started = panel::press_start(list, b, resets, log, kept);
+    outcome(START, started, log, kept)
 }
 
-// A case of step: a list, a state, a log and a pick. Its line: that of an outcome.
+// A case of step: a list, a state, a log, the kept states and a pick. Its line: that of an outcome.
 fn step(file: i32) -> bool {
     let mut list = buffer();
     let mut log = buffer();
     let list = field(file, &mut list);
     let given = state(file);
     let log = field(file, &mut log);
+    let mut kept = buffer();
+    let kept = kept_field(file, &mut kept);
     half(file);
     let station = byte(file);
     let reset = byte(file);
-    let stepped = panel::press_step(given, list, log, station, reset);
-    outcome(STEP, stepped, log)
+    let stepped = panel::press_step(given, list, log, kept, station, reset);
+    outcome(STEP, stepped, log, kept)
 }
 
-// A case of run: a list, a state, a log, the picks and the most-steps number. Its line: the number, the steps taken, the state and the log.
+// A case of run: a list, a state, a log, the kept states, the picks and the most-steps number. Its line: the number, the steps taken, the state
+// and the two buffers.
 fn run(file: i32) -> bool {
     let mut list = buffer();
     let mut log = buffer();
@@ -109,10 +115,12 @@ fn run(file: i32) -> bool {
     let list = field(file, &mut list);
     let given = state(file);
     let log = field(file, &mut log);
+    let mut kept = buffer();
+    let kept = kept_field(file, &mut kept);
     let picks = field(file, &mut picks);
     half(file);
     let most = long(file);
-    let ran = panel::press_run(given, list, log, picks, most as usize);
+    let ran = panel::press_run(given, list, log, kept, picks, most as usize);
     let reached = ran.state;
     line(
         RUN,
@@ -121,18 +129,21 @@ fn run(file: i32) -> bool {
             ran.steps as u64,
             hash_state(reached),
             hash(log),
+            hash(kept),
         ],
     )
 }
 
-// A case of undo: a list, a state and a log. Its line: the number and the state.
+// A case of undo: a list, a state, a log and the kept states. Its line: the number and the state.
 fn undo(file: i32) -> bool {
     let mut list = buffer();
     let mut log = buffer();
     let list = field(file, &mut list);
     let given = state(file);
     let log = field(file, &mut log);
-    let undone = panel::press_undo(given, list, log);
+    let mut kept = buffer();
+    let kept = kept_field(file, &mut kept);
+    let undone = panel::press_undo(given, list, log, kept);
     let reached = undone.state;
     line(UNDO, &[undone.number as u64, hash_state(reached)])
 }
@@ -168,10 +179,18 @@ fn readiness(file: i32) -> bool {
     line(READINESS, &[told.number as u64, told.place as u64])
 }
 
-// The line of a start and of a step: the number, the state and the log.
-fn outcome(call: u8, outcome: Outcome, log: &[u8]) -> bool {
+// The line of a start and of a step: the number, the state and the two buffers.
+fn outcome(call: u8, outcome: Outcome, log: &[u8], kept: &[u8]) -> bool {
     let state = outcome.state;
-    line(call, &[outcome.number as u64, hash_state(state), hash(log)])
+    line(
+        call,
+        &[
+            outcome.number as u64,
+            hash_state(state),
+            hash(log),
+            hash(kept),
+        ],
+    )
 }
 
 // H of the two rows of the lights together.

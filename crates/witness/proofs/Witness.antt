@@ -5,7 +5,7 @@ use native.Mathlib.Omega.{arith}
 use lib.Dec.{ltb}
 use lib.ListN.{getD, List·getD-eq-default}
 use borrow.Author.Tests.{ltb-true, ltb-false}
-use Rattle.rules.specs.Words.{each, first, tally, mask, values, changed, written, judge}
+use Rattle.rules.specs.Words.{each, first, tally, mask, values, changed, joined, written, judge}
 use Rattle.rules.specs.Records.{record-from, list-record-at}
 use Rattle.rules.specs.Fields.{rules-of, fields-right}
 use Rattle.rules.specs.Shape.{stride, wrong-at, walked, well-shaped, too-deep-at}
@@ -20,14 +20,15 @@ use Rattle.rules.specs.Ready.{readiness-at, readiness, ended, waiting, ready, l
 use Rattle.rules.specs.Move.{body-run, step-vars, step-position}
 use Rattle.rules.specs.Step.{charge, stepped, picked, step}
 use Rattle.rules.specs.Run.{steps-from, run}
-use Rattle.rules.specs.Undo.{replay, starts-right, replayed, undo}
+use Rattle.rules.specs.Kept.{encoded, kept-state, kept-zeros, kept-right, keep}
+use Rattle.rules.specs.Undo.{replay, starts-right, restarted, replayed-near, undo}
 use Rattle.rules.specs.History.{stepped-on, single-steps, called, calls-from}
 use Rattle.rules.specs.Passed.{passed-over}
 use Rattle.reading.proofs.Passed.{accepted-is}
 use Rattle.laws.proofs.Choice.{by-test}
 use Rattle.laws.proofs.Places.{each-at}
 use Rattle.demands.specs.Demands.{Bytes}
-use Rattle.witness.specs.Witness.{pair, Met}
+use Rattle.witness.specs.Witness.{pair, Met, counter, Deep}
 
 all-bytes : each (λ i. ltb (getD pair i 0) 256) 64 ≡ true
 unfolding each
@@ -39,7 +40,7 @@ pair-bytes i =
     (λ y. let e : getD pair i 0 ≡ 0 = List·getD-eq-default pair 0 {n = i} (ltb-false i 64 y) in omega (arith, e))
 
 pub met : Met
-unfolding each first tally mask values changed written judge record-from list-record-at rules-of fields-right stride wrong-at walked well-shaped too-deep-at check wrong-length field-place station-count depth-place parts-of stations-of leading-sets initial-part size laid inits bodies list-of bytes-of stations initials-after is-at init-right initial-right outside-targets inside-target inside-targets later-right sound-list few-low empty-at sound-state set-value holds initial-run started start-records start readiness-at readiness ended waiting ready lowest body-run step-vars step-position charge stepped picked step steps-from run replay starts-right replayed undo stepped-on single-steps called calls-from passed-over
+unfolding each first tally mask values changed written judge record-from list-record-at rules-of fields-right stride wrong-at walked well-shaped too-deep-at check wrong-length field-place station-count depth-place parts-of stations-of leading-sets initial-part size laid inits bodies list-of bytes-of stations initials-after is-at init-right initial-right outside-targets inside-target inside-targets later-right sound-list few-low empty-at sound-state set-value holds initial-run started start-records start readiness-at readiness ended waiting ready lowest body-run step-vars step-position charge stepped picked keep step steps-from run replay starts-right restarted replayed-near undo stepped-on single-steps called calls-from passed-over
 met =
     record {
       bytes = pair-bytes;
@@ -51,3 +52,7 @@ met =
       unpicked = (λ e. omega (arith, e), (λ e. omega (arith, e), tt));
       as-often = refl;
     }
+
+pub deep : Deep
+unfolding each first tally mask values changed written judge record-from list-record-at rules-of fields-right stride wrong-at walked well-shaped too-deep-at check wrong-length field-place station-count depth-place parts-of stations-of leading-sets initial-part size laid inits bodies list-of bytes-of stations initials-after is-at init-right initial-right outside-targets inside-target inside-targets later-right sound-list few-low empty-at sound-state set-value holds initial-run started start-records start readiness-at readiness ended waiting ready lowest body-run step-vars step-position charge stepped picked keep step steps-from run replay starts-right restarted replayed-near undo stepped-on single-steps called calls-from passed-over joined encoded kept-state kept-zeros kept-right
+deep = record { accepted = accepted-is counter .0 refl; stands = refl; undone = refl; counted = refl; used = refl }

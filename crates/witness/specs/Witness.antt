@@ -3,17 +3,18 @@
 use mathlib.Core.Path.{_≡_}
 use mathlib.Core.List.{List, [], _∷_, _++_}
 use mathlib.Core.Option.{some}
-use Prim.Native.Nat.{ℕ, _+_}
-use lib.ListN.{replicate}
-use Rattle.rules.specs.Names.{TURN, STATION, SKIP, WHILE, OD}
+use Prim.Native.Nat.{ℕ, _+_, _*_}
+use lib.ListN.{getD, replicate}
+use Rattle.rules.specs.Names.{STATE, TURN, STATION, SKIP, SET, WHILE, OD, max-kept, kept-length}
 use Rattle.rules.specs.Records.{Pick}
 use Rattle.rules.specs.List.{stations}
 use Rattle.rules.specs.State.{State, zeros}
 use Rattle.rules.specs.Lent.{Lent}
 use Rattle.rules.specs.Start.{started}
 use Rattle.rules.specs.Step.{stepped}
+use Rattle.rules.specs.Undo.{undo}
 use Rattle.rules.specs.Calls.{ruled}
-use Rattle.rules.specs.History.{Call, START, STEP, RUN, UNDO, Steps, begun, taken, start-b, answered, history}
+use Rattle.rules.specs.History.{Call, START, STEP, RUN, UNDO, Steps, begun, taken, start-b, Now, answered, history}
 use Rattle.rules.specs.Passed.{passed-over, Unpicked}
 use Rattle.reading.specs.Accepted.{Accepted}
 use Rattle.built.specs.Built.{built}
@@ -30,7 +31,7 @@ abbrev pick : ℕ → ℕ → Pick
 pick station reset = record { station = station; reset = reset }
 
 abbrev junk : Lent
-junk = record { log = replicate 16 7 }
+junk = record { log = replicate 16 7; kept = replicate (kept-length * max-kept) 7 }
 
 -- a start, and a run of three picks of station 0
 abbrev pub ran : List Call
@@ -64,3 +65,25 @@ pub record Met : Type 0 where
   pub unpicked : Unpicked 1 steps 2
   -- in which station 1 was passed over B+n-1 times
   pub as-often : passed-over (built pair) 1 steps 2 + 1 ≡ start-b steps + stations (built pair)
+
+-- one station that counts: STATION; WHILE v0 = v0; SET v0 := v0+1; OD
+abbrev pub counter : List ℕ
+counter = (STATION ∷ replicate 7 0) ++ (WHILE ∷ 0 ∷ 0 ∷ 4 ∷ replicate 4 0) ++ (SET ∷ 0 ∷ 0 ∷ 2 ∷ 1 ∷ replicate 3 0) ++ (OD ∷ replicate 7 0)
+
+-- with room for 66 steps, and 66 of them
+abbrev long-junk : Lent
+long-junk = record { log = replicate 134 7; kept = replicate (kept-length * max-kept) 7 }
+
+abbrev deep-calls : List Call
+deep-calls = START 0 (0 ∷ []) ∷ RUN (replicate 132 0) 99 ∷ []
+
+abbrev deep-now : Now
+deep-now = history ruled (built counter) zeros long-junk deep-calls
+
+-- an undo of the 66th step goes from the kept state of the 64th, and is refused where that is not there
+pub record Deep : Type 0 where
+  pub accepted : Accepted counter
+  pub stands : deep-now .state .m ≡ 66
+  pub undone : undo (built counter) (deep-now .state) (deep-now .lent) .state .m ≡ 65
+  pub counted : getD (undo (built counter) (deep-now .state) (deep-now .lent) .state .vars) 0 0 ≡ 32
+  pub used : undo (built counter) (deep-now .state) (record { log = deep-now .lent .log; kept = long-junk .kept }) .number ≡ STATE

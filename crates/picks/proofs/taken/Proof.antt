@@ -17,11 +17,14 @@ undo-requires c κs = search needs
 same-length : tie.Need-same-length
 same-length c = search needs
 
+same-length-2 : tie.Need-same-length-2
+same-length-2 c = search needs
+
 returns : tie.Need-returns
 unfolding taken-pick
 returns c =
-    let back = c .before .before in
-    let a = back .before .before .before .before .args in
+    let back = c .before .before .before in
+    let a = back .before .before .before .before .before .args in
     let yes : (eqb (a .station) undo-station && eqb (a .reset) 0) ≡ true =
     both (eq-eqb (a .station) undo-station (back .before .if1 .taken)) (eq-eqb (a .reset) 0 (back .if2 .taken))
     in
@@ -30,19 +33,23 @@ returns c =
 step-requires : tie.Need-step-requires
 step-requires c κs = search needs
 
-same-length-2 : tie.Need-same-length-2
-same-length-2 c = search needs
+same-length-3 : tie.Need-same-length-3
+same-length-3 c = search needs
+
+same-length-4 : tie.Need-same-length-4
+same-length-4 c = search needs
 
 returns-2 : tie.Need-returns-2
 unfolding taken-pick
 returns-2 c =
-    let joined = c .before .before .before .before in
-    let a = joined .before .before .before .args in
+    let joined = c .before .before .before .before .before .before .before in
+    let a = joined .before .before .before .before .args in
     let no : (eqb (a .station) undo-station && eqb (a .reset) 0) ≡ false =
     ⊎-elim (λ w. not-both-right (eqb (a .station) undo-station) _ (ne-eqb _ _ (w .1 .left))) (λ w. not-both-left _ (eqb (a .reset) 0) (ne-eqb _ _ (w .left))) (joined .if1 .came)
     in
-    rw no (c .before .before .step .ensures)
+    rw no (c .before .before .before .before .step .ensures)
 
 pub taken-spec : {M : Type 1} → statement M
 taken-spec =
-    tie.close (tie.spec undo-requires same-length returns step-requires same-length-2 returns-2)
+    tie.close
+    (tie.spec undo-requires same-length same-length-2 returns step-requires same-length-3 same-length-4 returns-2)

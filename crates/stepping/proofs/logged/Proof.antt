@@ -1,20 +1,45 @@
--- `stepping::logged` meets its contract: past FULL and ROOM a step is its pick, and the pick's record in the log.
+-- `stepping::logged` meets its contract: past FULL and ROOM a step is its pick, the pick's record in the log, and the state in its kept place.
 -- Assumes nothing.
-use Prim.Native.Nat.{_+_, _*_}
+use Prim.Native.Nat.{_+_, _*_, _/_, _≤_}
 use mathlib.Core.Path.{_≡_, sym, _∙_}
-use mathlib.Core.Bool.{true}
+use mathlib.Core.Bool.{true, false}
+use native.Mathlib.Omega.{arith}
+use lib.Dec.{leb}
 use lib.ListN.{length}
 use borrow.Author.Needs.{needs}
-use borrow.Author.Tests.{eq-eqb, ne-eqb, lt-ltb, le-ltb, leb-true, leb-false, not-true, not-false}
+use borrow.Author.Tests.{eq-eqb, ne-eqb, le-leb, lt-leb, lt-ltb, le-ltb, leb-true, leb-false, not-true, not-false}
 use Rattle.rules.specs.Words.{judge}
-use Rattle.logs.specs.Room.{has-room}
+use Rattle.rules.specs.Names.{max-steps, max-kept, kept-every, kept-length}
+use Rattle.rules.specs.Kept.{kept-offset, kept-short}
+use Rattle.laws.proofs.Choice.{both}
+use Rattle.keeping.specs.Place.{has-place}
 use Rattle.stepping.specs.Logged.{logged}
 use Rattle.stepping.proofs.logged.Statement.{statement}
 use Rattle.stepping.proofs.logged.Tie as tie
 
+-- what the tests that were passed say, in the words of the definition
+not-full : (c : tie.Else1) → let a = c .before .before .before .before .args in leb max-steps (a .m) ≡ false
+not-full c = lt-leb max-steps (c .before .before .before .before .args .m) (c .if1 .left)
+
+roomy : (c : tie.Else2) → let a = c .before .before .before .before .before .before .before .args in 2 * (a .n + a .m + 1) ≤ length (a .log .now)
+roomy c = leb-true _ _ (sym (c .before .room .ensures) ∙ not-false _ (c .if2 .left))
+
+kept-roomy : (c : tie.Else3) → let a = c .before .before .before .before .before .before .before .before .args in
+    kept-short (a .kept .now) ≡ false
+kept-roomy c = le-ltb _ (kept-length * max-kept) (c .if3 .left)
+
+-- and the state after the step has its kept place
+placed : (c : tie.Else3) → let a = c .before .before .before .before .before .before .before .before .args in
+    has-place (a .m + 1) (a .kept .now) ≡ true
+placed c =
+    let tested = c .before .before .before .before in
+    let a = tested .before .before .before .before .args in
+    both (le-leb 1 (a .m + 1) (omega arith))
+    (le-leb (kept-offset ((a .m + 1) / kept-every) + kept-length) (length (a .kept .now)) (omega (arith, tested .if1 .left, c .if3 .left)))
+
 returns : tie.Need-returns
 unfolding logged judge
-returns c = rw (eq-eqb _ _ (c .if1 .taken))
+returns c = rw (le-leb _ _ (c .if1 .taken))
 
 room-requires : tie.Need-room-requires
 room-requires c κs = search needs
@@ -26,22 +51,15 @@ returns-2 : tie.Need-returns-2
 unfolding logged judge
 returns-2 c =
     let tested = c .before .before .before in
-    let a = tested .before .before .before .args in
+    let a = tested .before .before .before .before .args in
     rw (
-      ne-eqb _ _ (tested .if1 .left),
+      not-full tested,
       lt-ltb (length (a .log .now)) (2 * (a .n + a .m + 1))
           (leb-false _ _ (sym (c .before .room .ensures) ∙ not-true _ (c .if2 .taken))),
     )
 
--- past the test of room, the log has it
-roomy : (c : tie.Else2) → let a = c .before .before .before .before .before .before .args in has-room (a .n) (a .m) (a .log .now) ≡ true
-roomy c = sym (c .before .room .ensures) ∙ not-false _ (c .if2 .left)
-
-pick-requires : tie.Need-pick-requires
-pick-requires c κs = search needs
-
-put-requires : tie.Need-put-requires
-put-requires c κs = search needs
+mul-if3 : tie.Need-mul-if3
+mul-if3 c = search needs
 
 same-length-2 : tie.Need-same-length-2
 same-length-2 c = search needs
@@ -49,36 +67,65 @@ same-length-2 c = search needs
 returns-3 : tie.Need-returns-3
 unfolding logged judge
 returns-3 c =
-    let put = c .before .before in
-    let taken = put .before .before in
-    let picked = taken .before in
-    let judged = picked .before .before .before .before in
-    let tested = judged .before .before .before in
-    let a = tested .before .before .before .args in
+    let logged-room = c .before in
     rw (
-      ne-eqb _ _ (tested .if1 .left),
-      le-ltb (length (a .log .now)) (2 * (a .n + a .m + 1)) (leb-true _ _ (roomy judged)),
-      ← picked .pick .ensures,
-      eq-eqb _ _ (taken .if3 .taken),
-      put .put .ensures,
-      roomy judged,
+      not-full (logged-room .before .before .before),
+      le-ltb _ _ (roomy logged-room),
+      lt-ltb _ (kept-length * max-kept) (c .if3 .taken),
     )
+
+pick-requires : tie.Need-pick-requires
+pick-requires c κs = search needs
+
+put-requires : tie.Need-put-requires
+put-requires c κs = search needs
+
+add-keep : tie.Need-add-keep
+add-keep c = search needs
+
+keep-requires : tie.Need-keep-requires
+keep-requires c κs = search needs
 
 same-length-3 : tie.Need-same-length-3
 same-length-3 c = search needs
 
+same-length-4 : tie.Need-same-length-4
+same-length-4 c = search needs
+
 returns-4 : tie.Need-returns-4
 unfolding logged judge
 returns-4 c =
+    let kept = c .before .before in
+    let put = kept .before .before .before .before .before .before .before in
+    let taken = put .before .before in
+    let picked = taken .before in
+    let judged = picked .before .before .before .before in
+    rw (
+      not-full (judged .before .before .before .before),
+      le-ltb _ _ (roomy (judged .before)),
+      kept-roomy judged,
+      ← picked .pick .ensures,
+      eq-eqb _ _ (taken .if4 .taken),
+      put .put .ensures,
+      le-leb _ _ (roomy (judged .before)),
+      kept .keep .ensures,
+      placed judged,
+    )
+
+same-length-5 : tie.Need-same-length-5
+same-length-5 c = search needs
+
+returns-5 : tie.Need-returns-5
+unfolding logged judge
+returns-5 c =
     let picked = c .before in
     let judged = picked .before .before .before .before in
-    let tested = judged .before .before .before in
-    let a = tested .before .before .before .args in
     rw (
-      ne-eqb _ _ (tested .if1 .left),
-      le-ltb (length (a .log .now)) (2 * (a .n + a .m + 1)) (leb-true _ _ (roomy judged)),
+      not-full (judged .before .before .before .before),
+      le-ltb _ _ (roomy (judged .before)),
+      kept-roomy judged,
       ← picked .pick .ensures,
-      ne-eqb _ _ (c .if3 .left),
+      ne-eqb _ _ (c .if4 .left),
     )
 
 pub logged-spec : {M : Type 1} → statement M
@@ -89,9 +136,15 @@ logged-spec =
     room-requires
     same-length
     returns-2
-    pick-requires
-    put-requires
+    mul-if3
     same-length-2
     returns-3
+    pick-requires
+    put-requires
+    add-keep
+    keep-requires
     same-length-3
-    returns-4)
+    same-length-4
+    returns-4
+    same-length-5
+    returns-5)

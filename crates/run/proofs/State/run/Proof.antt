@@ -43,9 +43,9 @@ least-requires c κs = search needs
 
 single-steps-requires : tie.Need-single-steps-requires
 single-steps-requires c κs =
-    let stated = c .before .before in
+    let stated = c .before .before .before in
     let listed = stated .before .before in
-    let a = listed .before .before .before .before .before .before .args in (
+    let a = listed .before .before .before .before .before .before .before .args in (
       record {
         of-list = sym (listed .before .sound .ensures) ∙ not-false _ (listed .if2 .left);
         of-state = sym (stated .before .sound2 .ensures) ∙ not-false _ (stated .if3 .left);
@@ -56,11 +56,14 @@ single-steps-requires c κs =
 same-length : tie.Need-same-length
 same-length c = search needs
 
+same-length-2 : tie.Need-same-length-2
+same-length-2 c = search needs
+
 returns-4 : tie.Need-returns-4
 unfolding rules.run judge
 returns-4 c =
-    let done = c .before .before in
-    let stated = done .before .before .before in
+    let done = c .before .before .before .before in
+    let stated = done .before .before .before .before in
     let listed = stated .before .before in
     rw (
       ne-eqb _ _ (listed .before .before .if1 .left),
@@ -81,4 +84,5 @@ run-spec =
     least-requires
     single-steps-requires
     same-length
+    same-length-2
     returns-4)

@@ -1,5 +1,5 @@
--- `run::State::single_steps` meets its contract. The loop's invariant: the state of the parts is sound, the log has kept its length, and the
--- steps to come, counted on from those taken, answer what the whole does. The measure is what is left of the count.
+-- `run::State::single_steps` meets its contract. The loop's invariant: the state of the parts is sound, the buffers have kept their lengths, and
+-- the steps to come, counted on from those taken, answer what the whole does. The measure is what is left of the count.
 -- Assumes nothing.
 use Prim.Native.Nat.{_-_, _≤_}
 use mathlib.Core.Path.{_≡_, refl, sym, ap, _∙_}
@@ -22,29 +22,30 @@ use Rattle.run.proofs.State.single_steps.Statement.{statement}
 use Rattle.run.proofs.State.single_steps.Tie as tie
 
 abbrev Inv-loop : tie.InvT-loop
-Inv-loop list log₀ picks count self₀ positions₀ priorities₀ n b m₀ steps₀ log self positions priorities m steps =
+Inv-loop list log₀ kept₀ picks count self₀ positions₀ priorities₀ n b m₀ steps₀ log kept self positions priorities m steps =
     (steps ≤ count)
     × (length log ≡ length log₀)
+    × (length kept ≡ length kept₀)
     × (sound-state list (of-parts (self .vars) positions priorities n b m) ≡ true)
-    × (steps-from list picks 0 count (as-state self₀) (record { log = log₀ })
-    ≡ counted steps (steps-from list picks steps (count - steps) (of-parts (self .vars) positions priorities n b m) (record { log = log })))
+    × (steps-from list picks 0 count (as-state self₀) (record { log = log₀; kept = kept₀ })
+    ≡ counted steps (steps-from list picks steps (count - steps) (of-parts (self .vars) positions priorities n b m) (record { log = log; kept = kept })))
 
 abbrev μ-loop : tie.MeasureT-loop
-μ-loop list log₀ picks count self₀ positions₀ priorities₀ n b m₀ steps₀ log self positions priorities m steps = count - steps
+μ-loop list log₀ kept₀ picks count self₀ positions₀ priorities₀ n b m₀ steps₀ log kept self positions priorities m steps = count - steps
 
 loop-holds : tie.Need-loop-holds Inv-loop μ-loop
 loop-holds c =
-    let start = c .before .before .before .before .before in
+    let start = c .before .before .before .before .before .before in
     let all : start .args .count - 0 ≡ start .args .count = omega arith in
-    (search needs, refl, start .pre .0 .of-state, rw all (counted-none _))
+    (search needs, refl, refl, start .pre .0 .of-state, rw all (counted-none _))
 
 -- the state before a step
 known : (c : tie.In-loop Inv-loop μ-loop) →
-    let start = c .before .before .before .before .before .before .before in
+    let start = c .before .before .before .before .before .before .before .before in
     let at = c .before .loop in
     Known (start .args .list .now) (of-parts (at .self .vars) (at .positions) (at .priorities) (start .args .t1 .n) (start .args .t1 .b) (at .m))
 known c =
-    record { of-list = c .before .before .before .before .before .before .before .pre .0 .of-list; of-state = c .before .loop .inv .2 }
+    record { of-list = c .before .before .before .before .before .before .before .before .pre .0 .of-list; of-state = c .before .loop .inv .3 }
 
 mul-at : tie.Need-mul-at Inv-loop μ-loop
 mul-at c = search needs
@@ -64,24 +65,27 @@ logged-requires c κs = search needs
 same-length : tie.Need-same-length Inv-loop μ-loop
 same-length c = search needs
 
+same-length-2 : tie.Need-same-length-2 Inv-loop μ-loop
+same-length-2 c = search needs
+
 returns : tie.Need-returns Inv-loop μ-loop
 returns c =
     let refused = c .before in
-    let done = refused .before .before .before in
-    let turn = done .before .before .before .before .before .before .before in
-    let start = turn .before .before .before .before .before .before .before in
+    let done = refused .before .before .before .before .before in
+    let turn = done .before .before .before .before .before .before .before .before in
+    let start = turn .before .before .before .before .before .before .before .before in
     let a = start .args in
     let at = turn .before .loop in
     let s = of-parts (at .self .vars) (at .positions) (at .priorities) (a .t1 .n) (a .t1 .b) (at .m) in
     let e = rw (ne-eqb _ _ (refused .if1 .taken)) at (done .logged .ensures ∙ logged-known _ s _ _ (known turn)) in
-    sym (at .inv .3
-    ∙ rw (← e) at (run-refused (a .list .now) (a .picks .now) (a .count) (at .steps) s (record { log = at .log })
+    sym (at .inv .4
+    ∙ rw (← e) at (run-refused (a .list .now) (a .picks .now) (a .count) (at .steps) s (record { log = at .log; kept = at .kept })
     (turn .loop-test .taken) (λ z. refused .if1 .taken (ap (λ (a : Stepped). a .number) e ∙ z))))
 
 add-m : tie.Need-add-m Inv-loop μ-loop
 add-m c =
-    let done = c .before .before .before in
-    omega (arith, few-steps (known (done .before .before .before .before .before .before .before)))
+    let done = c .before .before .before .before .before in
+    omega (arith, few-steps (known (done .before .before .before .before .before .before .before .before)))
 
 add-steps : tie.Need-add-steps Inv-loop μ-loop
 add-steps c = search needs
@@ -91,9 +95,9 @@ loop-less c = search needs
 
 loop-again : tie.Need-loop-again Inv-loop μ-loop
 loop-again c =
-    let done = c .before .before .before in
-    let turn = done .before .before .before .before .before .before .before in
-    let start = turn .before .before .before .before .before .before .before in
+    let done = c .before .before .before .before .before in
+    let turn = done .before .before .before .before .before .before .before .before in
+    let start = turn .before .before .before .before .before .before .before .before in
     let a = start .args in
     let at = turn .before .loop in
     let s = of-parts (at .self .vars) (at .positions) (at .priorities) (a .t1 .n) (a .t1 .b) (at .m) in
@@ -101,20 +105,24 @@ loop-again c =
     let taken = sym (ap (λ (a : Stepped). a .number) e) ∙ c .if1 .left in (
       search needs,
       done .logged .kept .1 .1 .1 .1 .1 .1 .1 .0 ∙ at .inv .1,
-      rw (← e) at (step-sound (a .list .now) s (record { log = at .log }) (pick-at (a .picks .now) (at .steps)) (at .inv .2)),
-      at .inv .3
-          ∙ rw (← e) at (run-taken (a .list .now) (a .picks .now) (a .count) (at .steps) s (record { log = at .log }) (turn .loop-test .taken) taken),
+      done .logged .kept .1 .1 .1 .1 .1 .1 .1 .1 .0 ∙ at .inv .2,
+      rw (← e) at (step-sound (a .list .now) s (record { log = at .log; kept = at .kept }) (pick-at (a .picks .now) (at .steps)) (at .inv .3)),
+      at .inv .4
+          ∙ rw (← e) at (run-taken (a .list .now) (a .picks .now) (a .count) (at .steps) s (record { log = at .log; kept = at .kept }) (turn .loop-test .taken) taken),
     )
 
-same-length-2 : tie.Need-same-length-2 Inv-loop μ-loop
-same-length-2 c = search needs
+same-length-3 : tie.Need-same-length-3 Inv-loop μ-loop
+same-length-3 c = search needs
+
+same-length-4 : tie.Need-same-length-4 Inv-loop μ-loop
+same-length-4 c = search needs
 
 returns-2 : tie.Need-returns-2 Inv-loop μ-loop
 returns-2 c =
     let at = c .before .before in
-    let start = at .before .before .before .before .before .before in
+    let start = at .before .before .before .before .before .before .before in
     let e : at .loop .steps ≡ start .args .count = omega (arith, c .before .loop-test .left, at .loop .inv .0) in
-    rw (at .loop .inv .3, e) (sym (run-ended _ _ _ _ _))
+    rw (at .loop .inv .4, e) (sym (run-ended _ _ _ _ _))
 
 pub single-steps-spec : {M : Type 1} → statement M
 single-steps-spec =
@@ -129,10 +137,12 @@ single-steps-spec =
     shared-slice-read-logged-2
     logged-requires
     same-length
+    same-length-2
     returns
     add-m
     add-steps
     loop-less
     loop-again
-    same-length-2
+    same-length-3
+    same-length-4
     returns-2)

@@ -15,14 +15,14 @@ use Rattle.run.proofs.State.step.Statement.{statement}
 use Rattle.run.proofs.State.step.Tie as tie
 
 -- what was asked of the state
-asked : (c : tie.After-parts-sound) → let a = c .before .before .before .before .before .before .before .before .before .args in
+asked : (c : tie.After-parts-sound) → let a = c .before .before .before .before .before .before .before .before .before .before .args in
     sound-state (a .list .now) (as-state (a .t1)) ≡ c .parts-sound .result
 asked c =
-    let a = c .before .before .before .before .before .before .before .before .before .args in
+    let a = c .before .before .before .before .before .before .before .before .before .before .args in
     sym (c .parts-sound .ensures ∙ sound-whatever (a .list .now) (as-state (a .t1)))
 
 -- past both tests
-known : (c : tie.Else2) → let a = c .before .before .before .before .before .before .before .before .before .before .args in
+known : (c : tie.Else2) → let a = c .before .before .before .before .before .before .before .before .before .before .before .args in
     Known (a .list .now) (as-state (a .t1))
 known c =
     let listed = c .before .before .before .before .before .before in
@@ -52,23 +52,29 @@ logged-requires c κs = search needs
 
 add-self : tie.Need-add-self
 add-self c =
-    omega (arith, few-steps (known (c .before .before .before .before .before .before .before .before)))
+    omega (arith, few-steps (known (c .before .before .before .before .before .before .before .before .before .before .before)))
 
 same-length : tie.Need-same-length
 same-length c = search needs
 
-returns-3 : tie.Need-returns-3
-returns-3 c =
-    let done = c .before .before .before in
-    rw (eq-eqb _ _ (c .if3 .taken)) at (done .logged .ensures ∙ logged-known _ _ _ _ (known (done .before .before .before .before .before)))
-
 same-length-2 : tie.Need-same-length-2
 same-length-2 c = search needs
 
+returns-3 : tie.Need-returns-3
+returns-3 c =
+    let done = c .before .before .before .before .before in
+    rw (eq-eqb _ _ (c .if3 .taken)) at (done .logged .ensures ∙ logged-known _ _ _ _ (known (done .before .before .before .before .before .before)))
+
+same-length-3 : tie.Need-same-length-3
+same-length-3 c = search needs
+
+same-length-4 : tie.Need-same-length-4
+same-length-4 c = search needs
+
 returns-4 : tie.Need-returns-4
 returns-4 c =
-    let done = c .before .before .before in
-    rw (ne-eqb _ _ (c .if3 .left)) at (done .logged .ensures ∙ logged-known _ _ _ _ (known (done .before .before .before .before .before)))
+    let done = c .before .before .before .before .before in
+    rw (ne-eqb _ _ (c .if3 .left)) at (done .logged .ensures ∙ logged-known _ _ _ _ (known (done .before .before .before .before .before .before)))
 
 pub step-spec : {M : Type 1} → statement M
 step-spec =
@@ -81,6 +87,8 @@ step-spec =
     logged-requires
     add-self
     same-length
-    returns-3
     same-length-2
+    returns-3
+    same-length-3
+    same-length-4
     returns-4)

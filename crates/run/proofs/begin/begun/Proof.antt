@@ -8,6 +8,7 @@ use borrow.Author.Needs.{needs}
 use Rattle.rules.specs.Names.{max-stations}
 use Rattle.rules.specs.List.{initials}
 use Rattle.rules.specs.Start.{started}
+use Rattle.rules.specs.Undo.{restarted}
 use Rattle.list.proofs.Given.{later-counted}
 use Rattle.laws.proofs.Sound.{few-stations}
 use Rattle.laws.proofs.Filled.{map-values}
@@ -41,7 +42,7 @@ cast-t13 : tie.Need-cast-t13
 cast-t13 c = omega (arith, few (c .before .before .before .before .before))
 
 returns : tie.Need-returns
-unfolding started
+unfolding restarted started
 returns c =
     let found = c .before .before .before .before in
     let counted = found .before in

@@ -1,31 +1,38 @@
-use Prim.Native.Nat.{_*_}
+-- `run::begin::start` meets its contract: the first test that refuses decides, and past them the resets are read back from the log.
+-- Assumes nothing.
+use Prim.Native.Nat.{_*_, _≤_}
 use mathlib.Core.Path.{_≡_, sym, _∙_}
-use mathlib.Core.Bool.{true, false}
+use mathlib.Core.Bool.{true}
+use native.Mathlib.Omega.{arith}
 use lib.Dec.{leb}
 use lib.ListN.{length, getD}
 use borrow.Author.Needs.{needs}
-use borrow.Author.Tests.{eq-eqb, ne-eqb, le-leb, leb-true, leb-false, lt-ltb, le-ltb, not-true, not-false}
+use borrow.Author.Tests.{eq-eqb, ne-eqb, le-leb, lt-ltb, le-ltb, not-true, not-false}
 use Rattle.rules.specs.Words.{each, judge}
-use Rattle.rules.specs.Names.{max-stations}
+use Rattle.rules.specs.Names.{max-stations, max-kept, kept-length}
 use Rattle.rules.specs.List.{stations, sound-list}
 use Rattle.rules.specs.Start as rules
+use Rattle.rules.specs.Undo.{restarted}
+use Rattle.laws.proofs.Choice.{both}
 use Rattle.laws.proofs.Sound.{few-stations}
 use Rattle.starts.specs.Room.{room}
 use Rattle.starts.proofs.Written.{resets-back}
 use Rattle.run.proofs.begin.start.Statement.{statement}
 use Rattle.run.proofs.begin.start.Tie as tie
 
--- `run::begin::start` meets its contract: the first test that refuses decides, and past them the resets are read back from the log.
--- Assumes nothing.
-
 -- past the first test the list is sound
-listed : (c : tie.Else1) → sound-list (c .before .before .before .before .before .args .list .now) ≡ true
+listed : (c : tie.Else1) → sound-list (c .before .before .before .before .before .before .args .list .now) ≡ true
 listed c = sym (c .before .sound .ensures) ∙ not-false _ (c .if1 .left)
 
 -- past the second there are as many resets as stations
-counted : (c : tie.Else2) → let a = c .before .before .before .before .before .before .before .args in
+counted : (c : tie.Else2) → let a = c .before .before .before .before .before .before .before .before .args in
     length (a .resets .now) ≡ stations (a .list .now)
 counted c = c .if2 .left ∙ c .before .stations .ensures
+
+-- past the third none is above b
+within : (c : tie.Else3) → let a = c .before .before .before .before .before .before .before .before .before .before .args in
+    each (λ j. leb (getD (a .resets .now) j 0) (a .b)) (length (a .resets .now)) ≡ true
+within c = sym (c .before .resets-within .ensures) ∙ not-false _ (c .if3 .left)
 
 sound-requires : tie.Need-sound-requires
 sound-requires c κs = search needs
@@ -49,7 +56,7 @@ returns-2 : tie.Need-returns-2
 unfolding rules.start judge
 returns-2 c =
     let differ = c .before in
-    let a = differ .before .before .before .before .before .before .before .args in
+    let a = differ .before .before .before .before .before .before .before .before .args in
     rw (
       c .refused2 .ensures .0,
       c .refused2 .ensures .1,
@@ -76,74 +83,99 @@ returns-3 c =
       sym (high .before .resets-within .ensures) ∙ not-true _ (high .if3 .taken),
     )
 
--- past the third none is above b
-within : (c : tie.Else3) → let a = c .before .before .before .before .before .before .before .before .before .args in
-    each (λ j. leb (getD (a .resets .now) j 0) (a .b)) (length (a .resets .now)) ≡ true
-within c = sym (c .before .resets-within .ensures) ∙ not-false _ (c .if3 .left)
+-- there are few stations
+few : (c : tie.Else2) → let a = c .before .before .before .before .before .before .before .before .args in stations (a .list .now) ≤ max-stations
+few c = few-stations _ (listed (c .before .before))
 
-write-requires : tie.Need-write-requires
-write-requires c κs = search needs
-
--- the resets are few, so that the start records want room in the log alone
-roomy : (c : tie.After-slice-known2) → let a = c .before .before .before .before .before .before .before .before .before .before .before .before .before .args in
-    room (length (a .resets .now)) (a .log .now) ≡ leb (2 * stations (a .list .now)) (length (a .log .now))
-roomy c =
-    let same = c .before .before .before .before .before .before in
-    let a = same .before .before .before .before .before .before .before .args in
-    rw (counted same, le-leb (stations (a .list .now)) max-stations (few-stations _ (listed (same .before .before))))
+mul-if4 : tie.Need-mul-if4
+mul-if4 c =
+    let same = c .before .before in
+    omega (arith, same .before .stations .ensures, few same)
 
 refused-requires-4 : tie.Need-refused-requires-4
 refused-requires-4 c κs = search needs
-
-same-length : tie.Need-same-length
-same-length c = search needs
 
 returns-4 : tie.Need-returns-4
 unfolding rules.start judge
 returns-4 c =
     let short = c .before in
-    let known = short .before in
-    let passed = known .before .before .before .before in
+    let passed = short .before in
     let same = passed .before .before in
-    let a = same .before .before .before .before .before .before .before .args in
-    let written = known .before .before .write .ensures in
-    let none : room (length (a .resets .now)) (a .log .now) ≡ false = sym (written .0) ∙ not-true _ (short .if4 .taken) in
     rw (
       c .refused4 .ensures .0,
       c .refused4 .ensures .1,
       listed (same .before .before),
       eq-eqb _ _ (counted same),
       within passed,
-      lt-ltb (length (a .log .now)) (2 * stations (a .list .now)) (leb-false _ _ (sym (roomy known) ∙ none)),
-      written .1,
-      none,
+      ← same .before .stations .ensures,
+      lt-ltb _ _ (short .if4 .taken),
     )
 
-begun-requires : tie.Need-begun-requires
-begun-requires c κs =
-    let passed = c .before .before .before .before .before .before in
-    listed (passed .before .before .before .before)
+mul-if5 : tie.Need-mul-if5
+mul-if5 c = search needs
 
-same-length-2 : tie.Need-same-length-2
-same-length-2 c = search needs
+refused-requires-5 : tie.Need-refused-requires-5
+refused-requires-5 c κs = search needs
 
 returns-5 : tie.Need-returns-5
 unfolding rules.start judge
 returns-5 c =
-    let had = c .before .before in
-    let known = had .before in
-    let passed = known .before .before .before .before in
+    let short = c .before in
+    let roomy = short .before in
+    let passed = roomy .before in
     let same = passed .before .before in
-    let a = same .before .before .before .before .before .before .before .args in
-    let written = known .before .before .write .ensures in
-    let all : room (length (a .resets .now)) (a .log .now) ≡ true = sym (written .0) ∙ not-false _ (had .if4 .left) in
-    let log = rw all at (written .1) in
+    rw (
+      c .refused5 .ensures .0,
+      c .refused5 .ensures .1,
+      listed (same .before .before),
+      eq-eqb _ _ (counted same),
+      within passed,
+      ← same .before .stations .ensures,
+      le-ltb _ _ (roomy .if4 .left),
+      lt-ltb _ (kept-length * max-kept) (short .if5 .taken),
+    )
+
+write-requires : tie.Need-write-requires
+write-requires c κs = search needs
+
+-- the start records have their room
+written-there : (c : tie.After-write) → let passed = c .before .before .before .before in
+    let a = passed .before .before .before .before .before .before .before .before .before .before .args in
+    room (length (a .resets .now)) (a .log .now) ≡ true
+written-there c =
+    let roomy = c .before .before .before in
+    let same = roomy .before .before .before in
+    let a = same .before .before .before .before .before .before .before .before .args in
+    rw (counted same)
+    (both (le-leb (stations (a .list .now)) max-stations (few same))
+    (le-leb (2 * stations (a .list .now)) (length (a .log .now)) (rw (same .before .stations .ensures) at (roomy .if4 .left))))
+
+begun-requires : tie.Need-begun-requires
+begun-requires c κs =
+    let passed = c .before .before .before .before .before .before .before in
+    listed (passed .before .before .before .before)
+
+same-length : tie.Need-same-length
+same-length c = search needs
+
+returns-6 : tie.Need-returns-6
+unfolding rules.start judge restarted
+returns-6 c =
+    let put = c .before .before .before .before in
+    let kept-there = put .before .before in
+    let roomy = kept-there .before in
+    let passed = roomy .before in
+    let same = passed .before .before in
+    let a = same .before .before .before .before .before .before .before .before .args in
+    let log = rw (written-there put) at (put .write .ensures .1) in
     let begun = rw (log, ← counted same, resets-back (a .log .now) (a .resets .now)) at (c .begun .ensures) in
     rw (
       listed (same .before .before),
       eq-eqb _ _ (counted same),
       within passed,
-      le-ltb (length (a .log .now)) (2 * stations (a .list .now)) (leb-true _ _ (sym (roomy known) ∙ all)),
+      ← same .before .stations .ensures,
+      le-ltb _ _ (roomy .if4 .left),
+      le-ltb _ (kept-length * max-kept) (kept-there .if5 .left),
       log,
       begun,
     )
@@ -161,10 +193,13 @@ start-spec =
     resets-within-requires
     refused-requires-3
     returns-3
-    write-requires
+    mul-if4
     refused-requires-4
-    same-length
     returns-4
+    mul-if5
+    refused-requires-5
+    returns-5
+    write-requires
     begun-requires
-    same-length-2
-    returns-5)
+    same-length
+    returns-6)

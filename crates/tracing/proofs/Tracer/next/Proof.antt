@@ -58,11 +58,14 @@ returns c =
 same-length : tie.Need-same-length
 same-length c = search needs
 
+same-length-2 : tie.Need-same-length-2
+same-length-2 c = search needs
+
 returns-2 : tie.Need-returns-2
 unfolding piece
 returns-2 c =
-    let told = c .before .before .before .before in
-    rw (c .before .before .pick .ensures, told .before .before .before .before .used .ensures, told .before .next .given .1)
+    let told = c .before .before .before .before .before .before .before in
+    rw (c .before .before .before .before .pick .ensures, told .before .before .before .before .used .ensures, told .before .next .given .1)
 
 returns-3 : tie.Need-returns-3
 unfolding piece
@@ -95,6 +98,7 @@ next-spec =
     print-then-requires-3
     returns
     same-length
+    same-length-2
     returns-2
     returns-3
     returns-4)

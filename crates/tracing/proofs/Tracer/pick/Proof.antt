@@ -45,12 +45,15 @@ print-then-requires-2 c κs = search needs
 same-length : tie.Need-same-length
 same-length c = search needs
 
+same-length-2 : tie.Need-same-length-2
+same-length-2 c = search needs
+
 returns-2 : tie.Need-returns-2
 unfolding pick-piece
 returns-2 c =
     let refused = c .before .before in
-    let taken = refused .before .before .before .before .before in
-    let some = taken .before .before .before .before .before in
+    let taken = refused .before .before .before .before .before .before .before in
+    let some = taken .before .before .before .before .before .before in
     rw (
       lt-ltb _ _ (some .if1 .left),
       ← taken .taken .ensures,
@@ -65,15 +68,18 @@ of-requires c κs = search needs
 print-then-requires-3 : tie.Need-print-then-requires-3
 print-then-requires-3 c κs = search needs
 
-same-length-2 : tie.Need-same-length-2
-same-length-2 c = search needs
+same-length-3 : tie.Need-same-length-3
+same-length-3 c = search needs
+
+same-length-4 : tie.Need-same-length-4
+same-length-4 c = search needs
 
 returns-3 : tie.Need-returns-3
 unfolding pick-piece
 returns-3 c =
     let went = c .before .before in
-    let taken = went .before .before .before .before .before in
-    let some = taken .before .before .before .before .before in
+    let taken = went .before .before .before .before .before .before .before in
+    let some = taken .before .before .before .before .before .before in
     rw (
       lt-ltb _ _ (some .if1 .left),
       ← taken .taken .ensures,
@@ -99,8 +105,10 @@ pick-spec =
     end-line-requires-2
     print-then-requires-2
     same-length
+    same-length-2
     returns-2
     of-requires
     print-then-requires-3
-    same-length-2
+    same-length-3
+    same-length-4
     returns-3)

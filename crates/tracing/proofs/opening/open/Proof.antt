@@ -63,7 +63,7 @@ ending-requires-3 : tie.Need-ending-requires-3
 ending-requires-3 c κs = search needs
 
 same-length-3 : tie.Need-same-length-3
-same-length-3 c = search needs
+same-length-3 c = c .before .before .before .before .before .before .before .before .before .before .before .before .before .before .before .before .build .kept .1 .0
 
 same-length-4 : tie.Need-same-length-4
 same-length-4 c = search needs

@@ -1,0 +1,2 @@
+-- What a buffer must have for a state to be kept in it.
+pub mod Place

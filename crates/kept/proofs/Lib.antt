@@ -1,0 +1,4 @@
+pub mod Bytes
+pub mod Back
+pub mod Elsewhere
+pub mod Keep

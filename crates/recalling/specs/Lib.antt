@@ -1,0 +1,2 @@
+-- What is read from a kept place.
+pub mod Recalled

@@ -1,0 +1,147 @@
+// The state in a kept place, read part by part from the bytes of a buffer that begin there. docs/KEPT.md gives the bytes of a kept
+// place. Where there are fewer than its 184 everything is zero.
+ghost use mathlib.Core.Path.{_≡_};
+ghost use mathlib.Core.Bool.{_&&_};
+ghost use Prim.Native.Nat.{_+_, _≤_};
+ghost use lib.Dec.{eqb, leb};
+ghost use lib.ListN.{length, getD};
+ghost use Rattle.rules.specs.Words.{each};
+ghost use Rattle.rules.specs.Names.{kept-length};
+ghost use Rattle.rules.specs.Records.{half};
+ghost use Rattle.rules.specs.Kept.{lowered, kept-zeros};
+ghost use Rattle.recalling.specs.Recalled.{recalled};
+use record::Record;
+
+// Where the positions begin in a kept place, behind the variables at its front.
+const POSITIONS: usize = 128;
+
+// Where the priorities begin.
+const PRIORITIES: usize = 144;
+
+// Where the zeros begin that are for the counts of request T-05.
+const COUNTS: usize = 160;
+
+// Where n is; B is in the byte behind it, and m in the two behind B.
+const N: usize = 176;
+
+// Where the zeros begin that are for the order of request T-09 and to spare. They end the place.
+const ORDER: usize = 180;
+
+// The state's variables.
+pub fn vars(part: &[u8]) -> [u32; 32]
+    ensures { λ r. ⌜ r ≡ recalled (now (part .entry)) .vars ⌝ }
+{
+    let mut vars = [0u32; 32];
+    if part.len() < Record::KEPT_LENGTH {
+        return vars;
+    }
+    let mut v: usize = 0;
+    while v < Record::VARIABLES {
+        let at = 4 * v;
+        vars[v] = record::word(part[at], part[at + 1], part[at + 2], part[at + 3]);
+        v += 1;
+    }
+    vars
+}
+
+// The state's positions.
+pub fn positions(part: &[u8]) -> [u16; 8]
+    ensures { λ r. ⌜ r ≡ recalled (now (part .entry)) .positions ⌝ }
+{
+    let mut positions = [0u16; 8];
+    if part.len() < Record::KEPT_LENGTH {
+        return positions;
+    }
+    let mut j: usize = 0;
+    while j < Record::MAX_STATIONS {
+        positions[j] = half_at(part, POSITIONS + 2 * j);
+        j += 1;
+    }
+    positions
+}
+
+// The state's priorities.
+pub fn priorities(part: &[u8]) -> [i16; 8]
+    ensures { λ r. ⌜ r ≡ recalled (now (part .entry)) .priorities ⌝ }
+{
+    let mut priorities = [0i16; 8];
+    if part.len() < Record::KEPT_LENGTH {
+        return priorities;
+    }
+    let mut j: usize = 0;
+    while j < Record::MAX_STATIONS {
+        priorities[j] = lowered(half_at(part, PRIORITIES + 2 * j));
+        j += 1;
+    }
+    priorities
+}
+
+// The state's n.
+pub fn n(part: &[u8]) -> u8
+    ensures { λ r. ⌜ r ≡ recalled (now (part .entry)) .n ⌝ }
+{
+    if part.len() < Record::KEPT_LENGTH {
+        return 0;
+    }
+    part[N]
+}
+
+// The state's B.
+pub fn b(part: &[u8]) -> u8
+    ensures { λ r. ⌜ r ≡ recalled (now (part .entry)) .b ⌝ }
+{
+    if part.len() < Record::KEPT_LENGTH {
+        return 0;
+    }
+    part[N + 1]
+}
+
+// The state's m.
+pub fn m(part: &[u8]) -> u16
+    ensures { λ r. ⌜ r ≡ recalled (now (part .entry)) .m ⌝ }
+{
+    if part.len() < Record::KEPT_LENGTH {
+        return 0;
+    }
+    half_at(part, N + 2)
+}
+
+// Whether the bytes are there and those that are said to be zero are.
+pub fn zeros(part: &[u8]) -> bool
+    ensures { λ r. ⌜ r ≡ (leb kept-length (length (now (part .entry))) && kept-zeros (now (part .entry)) 1) ⌝ }
+{
+    if part.len() < Record::KEPT_LENGTH {
+        return false;
+    }
+    zero_from(part, COUNTS, N - COUNTS) && zero_from(part, ORDER, Record::KEPT_LENGTH - ORDER)
+}
+
+// Whether so many bytes from an offset on are zero.
+fn zero_from(part: &[u8], at: usize, count: usize) -> bool
+    requires { ⌜ at + count ≤ length (now part) ⌝ }
+    ensures { λ r. ⌜ r ≡ each (λ i. eqb (getD (now (part .entry)) (at + i) 0) 0) count ⌝ }
+{
+    let mut i: usize = 0;
+    while i < count {
+        if part[at + i] != 0 {
+            return false;
+        }
+        i += 1;
+    }
+    true
+}
+
+// Two bytes from an offset on, low byte first.
+fn half_at(part: &[u8], at: usize) -> u16
+    requires { ⌜ at + 2 ≤ length (now part) ⌝ }
+    ensures { λ r. ⌜ r ≡ half (now (part .entry)) at ⌝ }
+{
+    record::half(part[at], part[at + 1])
+}
+
+// The priority that is kept as this number, 32,768 less.
+fn lowered(x: u16) -> i16
+    ensures { λ r. ⌜ r ≡ lowered x ⌝ }
+{
+    (x as i32 - 32768) as i16
+}

@@ -1,0 +1,2 @@
+-- When the state in a kept place may be gone on from.
+pub mod Usable
