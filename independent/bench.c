@@ -487,7 +487,7 @@ static void clear(enum call call, uint8_t *list, uint8_t *log, uint8_t *kept)
         memset(kept, PAINT, PRESS_KEPT_BYTES);
 }
 
-/* Whether a call's buffers are cleared between repetitions: a step writes two bytes, and these calls more. */
+/* Whether a call's buffers are cleared between repetitions: a step writes the same bytes each time, and these calls many. */
 static int is_cleared(enum call call)
 {
     return call == BUILD || call == START || call == RUN;

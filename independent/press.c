@@ -1,7 +1,8 @@
 /*
  * press.c - see press.h.
  *
- * Sentences in quotation marks are the documents' own.
+ * Sentences in quotation marks are the documents' own, those on kept places
+ * docs/KEPT.md's.
  */
 #include "press.h"
 

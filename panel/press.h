@@ -37,14 +37,14 @@ enum {
     PRESS_ROOM = 6,       /* build: the list buffer is short; start, step, advance, run: the log or kept is; undo: kept is */
     PRESS_LIST = 7,       /* start, step, advance, run, undo, readiness, lights: the list is not sound */
     PRESS_STATE = 8,      /* step, advance, run, undo, readiness, lights: the state is not sound against the list; undo:
-                             nor is the kept state used, or it has another m or b */
+                             nor is the kept state used, or it has another m or b, or a byte that is to be 0 is not */
     PRESS_FULL = 9,       /* step, advance, run: 4,096 steps stand */
     PRESS_COMPONENT = 10, /* step, advance, run, readiness: no such station */
     PRESS_NOT_READY = 11, /* step, advance, run, readiness: the station is waiting */
     PRESS_TURN = 12,      /* step, advance, run: the station is ready, and a ready one has a lower priority number */
     PRESS_RESET = 13,     /* start: resets not one a station, or one above b; step, advance, run: a reset above b */
     PRESS_EMPTY = 14,     /* undo: no step stands */
-    PRESS_LOG = 15,       /* undo: the log is short, has wrong start records, or has a step that is refused */
+    PRESS_LOG = 15,       /* undo: the log is short, or of what is replayed a start record is wrong or a step refused */
     PRESS_ENDED = 16      /* step, advance, run, readiness: the station has ended */
 };
 
@@ -156,8 +156,8 @@ press_ran press_run(press_state state, const uint8_t *list, size_t list_len, uin
                     uint8_t *kept, size_t kept_len, const uint8_t *picks, size_t picks_len, size_t most);
 
 /*
- * Takes the last step back: answers the state before it, reached again by the log from the kept state nearest below, or
- * from the log's start records below 64 steps; at most 63 steps are replayed, however many stand. It writes nothing; the
+ * Takes the last step back: answers the state before it, reached again by the log from the nearest kept state at or
+ * below it, or from the log's start records where at most 64 steps stand; at most 63 are replayed, however many stand. It writes nothing; the
  * next step writes over the record withdrawn. Refused (PRESS_LIST, PRESS_STATE, PRESS_EMPTY, PRESS_ROOM for kept,
  * PRESS_STATE for the kept state used, PRESS_LOG, in this order), it answers the state given.
  */
@@ -179,7 +179,7 @@ typedef struct press_told {
 /*
  * Whether a station is ready, has ended, or is waiting, and where. It keeps nothing from call to call and writes
  * nothing. PRESS_LIST, PRESS_STATE and PRESS_COMPONENT, in this order, are tested before. Where it answers 10, 16 or 11,
- * a step that picks this station is refused with the same number, given room in the log and fewer than 4,096 steps.
+ * a step that picks this station is refused with the same number, given room in the log and in kept and fewer than 4,096 steps.
  */
 press_told press_readiness(press_state state, const uint8_t *list, size_t list_len, uint8_t station);
 

@@ -79,7 +79,7 @@ StepDoes bench =
     → Does list s p (bench .step list s lent p .state)
     × (bench .step list s lent p .lent ≡ with-step lent s p (bench .step list s lent p .state))
 
--- UNDO: "the state reached by replaying the first n+m-1 records", from the kept state nearest below where there is one; whatever state is given,
+-- UNDO: "the state reached by replaying the first n+m-1 records", from the nearest kept state at or below that where there is one; whatever state is given,
 -- it depends on no more of it than B and m
 abbrev pub UndoReplays : Seven → Type 0
 UndoReplays bench =

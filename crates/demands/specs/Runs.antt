@@ -12,7 +12,7 @@ use Rattle.rules.specs.Run.{Ran}
 use Rattle.rules.specs.Calls.{Seven}
 use Rattle.demands.specs.Order.{before-steps}
 
--- so many single steps of the picks, in order, each taken from the state and with the log that the one before it left
+-- so many single steps of the picks, in order, each taken from the state and with the buffers that the one before it left
 pub data Singles (bench : Seven) (list picks : List ℕ) (s : State) (lent : Lent) : ℕ → State → Lent → Type 0 where
   none : Singles bench list picks s lent 0 s lent
   one-more : {k : ℕ} {t : State} {left : Lent} → Singles bench list picks s lent k t left

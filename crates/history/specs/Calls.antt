@@ -16,7 +16,7 @@ steps-before bench list now (RUN picks most) = bench .run list (now .state) (now
 steps-before bench list now UNDO = 0
 steps-before bench list now LIGHTS = 0
 
--- a refused call leaves the last state, the log and what stands
+-- a refused call leaves the last state, what is lent and what stands
 abbrev pub RefusedLeaves : Seven → Type 0
 RefusedLeaves bench =
     (list : List ℕ) (now : Now) (c : Call) → answered bench list now c ≢ 0 → steps-before bench list now c ≡ 0 → called bench list now c ≡ now

@@ -3,7 +3,7 @@ use mathlib.Core.Path.{_≡_, refl, sym, _∙_}
 use mathlib.Core.Bool.{Bool, true, false}
 use mathlib.Core.List.{List, [], _∷_, _++_, append-assoc, append-nil}
 use Prim.Native.Nat.{ℕ, suc, _+_, _*_, _/_, _%_, _≤_, _<_}
-use native.Mathlib.Nat.{mul-suc, mul-le-mul-left, zero-add}
+use native.Mathlib.Nat.{mul-le-mul-left, zero-add}
 use native.Mathlib.Numerals.{add-one}
 use native.Mathlib.Omega.{arith}
 use lib.Dec.{eqb}
@@ -14,6 +14,7 @@ use Rattle.rules.specs.Names.{variables, max-stations, kept-every, kept-length}
 use Rattle.rules.specs.State.{State}
 use Rattle.rules.specs.Kept.{kept-offset, in-two, in-four, raised, encoded, keep}
 use Rattle.laws.proofs.Choice.{by-test}
+use Rattle.laws.proofs.Joined.{length-joined}
 use Rattle.laws.proofs.Written.{length-written, written-more, written-sets, written-record}
 
 -- four bytes
@@ -46,17 +47,12 @@ module _ {A : Type 0} (spell : A → List ℕ) where
   joined-snoc (y ∷ xs) x = rw (joined-snoc xs x, append-assoc)
 
   module _ (size : ℕ) (sized : (x : A) → length (spell x) ≡ size) where
-    length-joined : (xs : List A) → length (joined spell xs) ≡ size * length xs
-    unfolding joined
-    length-joined [] = omega arith
-    length-joined (x ∷ xs) = rw (length-append, sized x, length-joined xs, mul-suc) (omega arith)
-
     -- one turn of a loop that puts in the bytes of the entries, from the front on
     pub joined-turn : (place now next : List ℕ) (at offset : ℕ) (xs : List A) (j : ℕ) (d : A) → j < length xs
         → at + size * length xs ≤ length place → offset ≡ at + size * j → now ≡ written place at (joined spell (take j xs))
         → next ≡ written now offset (spell (getD xs j d)) → next ≡ written place at (joined spell (take (j + 1) xs))
     joined-turn place now next at offset xs j d within room there so-far new =
-        let many : length (joined spell (take j xs)) ≡ size * j = rw (length-joined, length-take-le j xs (omega arith)) in
+        let many : length (joined spell (take j xs)) ≡ size * j = rw (length-joined spell size sized (take j xs), length-take-le j xs (omega arith)) in
         let fewer = mul-le-mul-left {m = j} {n = length xs} size (omega arith) in
         put-next place now next (joined spell (take j xs)) (spell (getD xs j d)) at offset (omega arith) (omega arith) so-far new
         ∙ rw (add-one, take-suc xs j d within, joined-snoc)

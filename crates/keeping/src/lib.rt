@@ -10,21 +10,6 @@ ghost use Rattle.laws.specs.Parts.{of-parts};
 ghost use Rattle.keeping.specs.Place.{has-place};
 use record::Record;
 
-// Where the positions begin in a kept place, behind the variables at its front.
-const POSITIONS: usize = 128;
-
-// Where the priorities begin.
-const PRIORITIES: usize = 144;
-
-// Where the zeros begin that are for the counts of request T-05.
-const COUNTS: usize = 160;
-
-// Where n is; B is in the byte behind it, and m in the two behind B.
-const N: usize = 176;
-
-// Where the zeros begin that are for the order of request T-09 and to spare. They end the place.
-const ORDER: usize = 180;
-
 // Puts the state of these parts into its kept place, where its steps are a multiple of 64 and the buffer has the place; else nothing.
 pub fn keep(
     kept: &mut [u8],
@@ -86,7 +71,7 @@ fn put_positions(place: &mut [u8], positions: &[u16])
 {
     let mut j: usize = 0;
     while j < positions.len() {
-        put_two(place, POSITIONS + 2 * j, positions[j]);
+        put_two(place, Record::KEPT_POSITIONS + 2 * j, positions[j]);
         j += 1;
     }
 }
@@ -98,7 +83,11 @@ fn put_priorities(place: &mut [u8], priorities: &[i16])
 {
     let mut j: usize = 0;
     while j < priorities.len() {
-        put_two(place, PRIORITIES + 2 * j, raised(priorities[j]));
+        put_two(
+            place,
+            Record::KEPT_PRIORITIES + 2 * j,
+            raised(priorities[j]),
+        );
         j += 1;
     }
 }
@@ -108,11 +97,19 @@ fn put_rest(place: &mut [u8], n: u8, b: u8, m: u16)
     requires { ⌜ kept-length ≤ length (now place) ⌝ }
     ensures { λ r. ⌜ now (place .exit) ≡ written (now (place .entry)) 160 (replicate 16 0 ++ (n ∷ b ∷ in-two m) ++ replicate 4 0) ⌝ }
 {
-    put_zeros(place, COUNTS, N - COUNTS);
-    place[N] = n;
-    place[N + 1] = b;
-    put_two(place, N + 2, m);
-    put_zeros(place, ORDER, Record::KEPT_LENGTH - ORDER);
+    put_zeros(
+        place,
+        Record::KEPT_COUNTS,
+        Record::KEPT_N - Record::KEPT_COUNTS,
+    );
+    place[Record::KEPT_N] = n;
+    place[Record::KEPT_N + 1] = b;
+    put_two(place, Record::KEPT_N + 2, m);
+    put_zeros(
+        place,
+        Record::KEPT_ORDER,
+        Record::KEPT_LENGTH - Record::KEPT_ORDER,
+    );
 }
 
 // Puts zeros into so many bytes from an offset on.

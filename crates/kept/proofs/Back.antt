@@ -18,11 +18,12 @@ use Rattle.rules.specs.Kept.{kept-offset, in-two, in-four, raised, lowered, enc
 use Rattle.laws.specs.Passed.{Known}
 use Rattle.laws.proofs.Choice.{by-test, both, both-right}
 use Rattle.laws.proofs.Places.{each-all, length-values, getD-values}
+use Rattle.laws.proofs.Joined.{length-joined, getD-joined}
 use Rattle.laws.proofs.Sound.{sound-means, at-most-eight}
 use Rattle.fair.specs.Sound.{Held}
 use Rattle.fair.proofs.Charge.{above-low}
 use Rattle.kept.specs.Keeps.{HasPlace, KeptBack}
-use Rattle.kept.proofs.Bytes.{length-joined, getD-joined, getD-put}
+use Rattle.kept.proofs.Bytes.{getD-put}
 
 -- a number that is 32,768 more comes back, unless it was too low to be raised
 not-low : ℤ → Type 0

@@ -1,35 +1,11 @@
--- The bytes of numbers that are spelled one after another, and the bytes of a buffer into which some were put. Assumes nothing.
+-- The bytes of a buffer into which some were put. Assumes nothing.
 use mathlib.Core.Path.{_≡_, ap, _∙_}
-use mathlib.Core.List.{List, [], _∷_, _++_}
-use Prim.Native.Nat.{ℕ, zero, suc, _+_, _-_, _*_, _≤_, _<_}
-use native.Mathlib.Nat.{not-suc-le-zero, le-of-suc-le-suc}
+use mathlib.Core.List.{List, _++_}
+use Prim.Native.Nat.{ℕ, _+_, _-_, _≤_, _<_}
 use native.Mathlib.Omega.{arith}
-use lib.ListN.{length, getD, take, drop, length-append, List·getD-append}
+use lib.ListN.{length, getD, take, drop, List·getD-append}
 use lib.Seq.{getD-append-add, getD-take, getD-drop, length-take-le}
-use Rattle.rules.specs.Words.{joined, written}
-
--- numbers that take w bytes each
-module _ {A : Type 0} (spell : A → List ℕ) (w : ℕ) (long : (x : A) → length (spell x) ≡ w) where
-  pub length-joined : (xs : List A) → length (joined spell xs) ≡ w * length xs
-  unfolding joined
-  length-joined [] = omega arith
-  length-joined (x ∷ xs) =
-      let more = length-joined xs in
-      let each = long x in
-      let e : w * suc (length xs) ≡ w + w * length xs = omega arith in
-      rw (length-append, more, each, e)
-
-  -- byte r of number i
-  pub getD-joined : (xs : List A) (i r : ℕ) (d : A) → i < length xs → r < w
-      → getD (joined spell xs) (w * i + r) 0 ≡ getD (spell (getD xs i d)) r 0
-  unfolding joined
-  getD-joined [] i r d h l = absurd (not-suc-le-zero h)
-  getD-joined (x ∷ xs) zero r d h l =
-      let e : w * 0 + r ≡ r = omega arith in
-      rw e (List·getD-append (spell x) (joined spell xs) 0 r (rw (long x) l))
-  getD-joined (x ∷ xs) (suc i) r d h l =
-      let e : w * suc i + r ≡ length (spell x) + (w * i + r) = rw (long x) (omega arith) in
-      rw (e, getD-append-add) (getD-joined xs i r d (le-of-suc-le-suc h) l)
+use Rattle.rules.specs.Words.{written}
 
 module _ (buffer : List ℕ) (at : ℕ) (bytes : List ℕ) (fits : at + length bytes ≤ length buffer) where
   -- a byte that was put in

@@ -36,7 +36,7 @@ module _ (kept other : List ℕ) (j : ℕ)
       let d = same (i + 3) (at + 3) l (omega arith) in
       rw (a, b, c, d)
 
-  pub same-state : kept-state other j ≡ kept-state kept j
+  same-state : kept-state other j ≡ kept-state kept j
   unfolding kept-state
   same-state =
       let at = kept-offset j in
@@ -57,7 +57,7 @@ module _ (kept other : List ℕ) (j : ℕ)
         m = m i;
       }
 
-  pub same-zeros : kept-zeros other j ≡ kept-zeros kept j
+  same-zeros : kept-zeros other j ≡ kept-zeros kept j
   unfolding kept-zeros
   same-zeros =
       let at = kept-offset j in

@@ -7,6 +7,7 @@ pub mod Filled
 pub mod Among
 pub mod Judge
 pub mod Written
+pub mod Joined
 pub mod Lowest
 pub mod Shapes
 pub mod Bodies

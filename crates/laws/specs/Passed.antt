@@ -20,7 +20,7 @@ pub record Known (list : List ℕ) (s : State) : Type 0 where
   pub of-list : sound-list list ≡ true
   pub of-state : sound-state list s ≡ true
 
--- the buffer of kept states "can hold 64 kept states"
+-- the buffer can hold 64 kept states
 abbrev pub KeptRoom : Lent → Type 0
 KeptRoom lent = kept-length * max-kept ≤ length (lent .kept)
 

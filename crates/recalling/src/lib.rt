@@ -12,21 +12,6 @@ ghost use Rattle.rules.specs.Kept.{lowered, kept-zeros};
 ghost use Rattle.recalling.specs.Recalled.{recalled};
 use record::Record;
 
-// Where the positions begin in a kept place, behind the variables at its front.
-const POSITIONS: usize = 128;
-
-// Where the priorities begin.
-const PRIORITIES: usize = 144;
-
-// Where the zeros begin that are for the counts of request T-05.
-const COUNTS: usize = 160;
-
-// Where n is; B is in the byte behind it, and m in the two behind B.
-const N: usize = 176;
-
-// Where the zeros begin that are for the order of request T-09 and to spare. They end the place.
-const ORDER: usize = 180;
-
 // The state's variables.
 pub fn vars(part: &[u8]) -> [u32; 32]
     ensures { λ r. ⌜ r ≡ recalled (now (part .entry)) .vars ⌝ }
@@ -54,7 +39,7 @@ pub fn positions(part: &[u8]) -> [u16; 8]
     }
     let mut j: usize = 0;
     while j < Record::MAX_STATIONS {
-        positions[j] = half_at(part, POSITIONS + 2 * j);
+        positions[j] = half_at(part, Record::KEPT_POSITIONS + 2 * j);
         j += 1;
     }
     positions
@@ -70,7 +55,7 @@ pub fn priorities(part: &[u8]) -> [i16; 8]
     }
     let mut j: usize = 0;
     while j < Record::MAX_STATIONS {
-        priorities[j] = lowered(half_at(part, PRIORITIES + 2 * j));
+        priorities[j] = lowered(half_at(part, Record::KEPT_PRIORITIES + 2 * j));
         j += 1;
     }
     priorities
@@ -83,7 +68,7 @@ pub fn n(part: &[u8]) -> u8
     if part.len() < Record::KEPT_LENGTH {
         return 0;
     }
-    part[N]
+    part[Record::KEPT_N]
 }
 
 // The state's B.
@@ -93,7 +78,7 @@ pub fn b(part: &[u8]) -> u8
     if part.len() < Record::KEPT_LENGTH {
         return 0;
     }
-    part[N + 1]
+    part[Record::KEPT_N + 1]
 }
 
 // The state's m.
@@ -103,7 +88,7 @@ pub fn m(part: &[u8]) -> u16
     if part.len() < Record::KEPT_LENGTH {
         return 0;
     }
-    half_at(part, N + 2)
+    half_at(part, Record::KEPT_N + 2)
 }
 
 // Whether the bytes are there and those that are said to be zero are.
@@ -113,7 +98,16 @@ pub fn zeros(part: &[u8]) -> bool
     if part.len() < Record::KEPT_LENGTH {
         return false;
     }
-    zero_from(part, COUNTS, N - COUNTS) && zero_from(part, ORDER, Record::KEPT_LENGTH - ORDER)
+    zero_from(
+        part,
+        Record::KEPT_COUNTS,
+        Record::KEPT_N - Record::KEPT_COUNTS,
+    )
+        && zero_from(
+            part,
+            Record::KEPT_ORDER,
+            Record::KEPT_LENGTH - Record::KEPT_ORDER,
+        )
 }
 
 // Whether so many bytes from an offset on are zero.

@@ -93,6 +93,18 @@ impl Record {
     // Bytes of a kept state.
     pub const KEPT_LENGTH: usize = 184;
 
+    // Where the parts of a kept state begin, behind the variables at its front: the positions, the priorities, the bytes for counts, n with B
+    // and m behind it, and the bytes for an order.
+    pub const KEPT_POSITIONS: usize = 128;
+
+    pub const KEPT_PRIORITIES: usize = 144;
+
+    pub const KEPT_COUNTS: usize = 160;
+
+    pub const KEPT_N: usize = 176;
+
+    pub const KEPT_ORDER: usize = 180;
+
     // The station byte of a list's initial part.
     pub const NO_STATION: u8 = 255;
 

@@ -115,6 +115,8 @@ data Row : Type 0 where
   plays : List ℕ → List Call → List Answered → Row
   -- the same with a long log
   plays-long : List ℕ → List Call → List Answered → Row
+  -- a file, and calls on its list with a long log; the bytes of the first kept place afterwards, and the one behind it
+  keeps : List ℕ → List Call → List ℕ → Row
   -- a file, and calls on its list; how many steps stand after them
   leaves : List ℕ → List Call → ℕ → Row
   -- a file, calls on its list, and a station; how often it was ready and passed over in the steps that stand after them
@@ -135,6 +137,7 @@ Holds (lists file count bytes) =
     build file (replicate (16 * count) 7 ++ junk) ≡ record { number = 0; place = 0; count = count; buffer = bytes ++ junk }
 Holds (plays file cs rows) = answers (list-made file) fresh cs ≡ rows
 Holds (plays-long file cs rows) = answers (list-made file) fresh-long cs ≡ rows
+Holds (keeps file cs bytes) = take (kept-length + 1) (calls-from ruled (list-made file) fresh-long cs .lent .kept) ≡ bytes
 Holds (leaves file cs count) = height-of (calls-from ruled (list-made file) fresh cs .standing) ≡ count
 Holds (passes file cs j times) = passed-in (list-made file) j (calls-from ruled (list-made file) fresh cs .standing) ≡ times
 Holds (passes-most file b resets cs j) =
@@ -280,6 +283,11 @@ table =
     (goes dryer-0 ∷ goes dryer-1 ∷ goes dryer-2 ∷ goes dryer-1 ∷ goes dryer-0 ∷ [])
     -- ours: and then none stands
     ∷ leaves dryer (START 0 (0 ∷ 0 ∷ []) ∷ pick 0 0 ∷ pick 1 0 ∷ UNDO ∷ UNDO ∷ []) 0
+    -- ours: the kept place of the pair after 64 steps, station by station in turn: variables, positions 2 and 5, priorities -1 and 0 and six
+    -- zeros more, each 32,768 higher, bytes for counts, n = 2, B = 0, m = 64, bytes for an order; behind it junk
+    ∷ keeps pair (START 0 (0 ∷ 0 ∷ []) ∷ RUN (joined (λ pick. pick) (replicate 32 (0 ∷ 0 ∷ 1 ∷ 0 ∷ []))) 99 ∷ [])
+    (replicate 128 0 ++ (2 ∷ 0 ∷ 5 ∷ 0 ∷ replicate 12 0) ++ (255 ∷ 127 ∷ joined (λ zero. zero) (replicate 7 (0 ∷ 128 ∷ [])))
+    ++ replicate 16 0 ++ (2 ∷ 0 ∷ 64 ∷ 0 ∷ []) ++ replicate 4 0 ++ (7 ∷ []))
     -- ours: 66 steps, and back past the 64th, over a buffer of junk: each undo gives back the whole state before the step
     ∷ plays-long counter (START 1 (0 ∷ []) ∷ RUN (replicate 132 0) 99 ∷ UNDO ∷ UNDO ∷ UNDO ∷ [])
     (goes (at-while 0 0 0) ∷ goes (at-while 33 0 66) ∷ goes (at-set 32 0 65) ∷ goes (at-while 32 0 64) ∷ goes (at-set 31 0 63) ∷ [])
@@ -308,4 +316,4 @@ all-hold : Every table
 unfolding each first tally mask values changed joined written judge record-from list-record-at rules-of fields-right stride wrong-at walked well-shaped too-deep-at check wrong-length field-place station-count depth-place parts-of stations-of leading-sets initial-part size laid inits bodies list-of bytes-of build stations initials-after is-at init-right initial-right outside-targets inside-target inside-targets later-right sound-list few-low empty-at sound-state set-value holds initial-run started start-records start readiness-at readiness ended waiting ready lowest body-run step-vars step-position charge stepped picked encoded kept-state kept-zeros kept-right keep step steps-from run replay starts-right restarted replayed-near undo asked reads writes led-to body some-of touches lights decimal-digits priorities-text line end-line taken-pick picks-text run-text start-text trace stepped-on single-steps called calls-from answers passed-over
 all-hold =
     refl and refl and refl and refl and refl and refl and refl and refl and refl and refl
-    and refl and refl and refl and refl and refl and refl and refl and refl and refl and refl and refl and refl and refl and refl and refl and refl and refl and refl and refl and refl and refl and refl and refl and refl and refl and refl and done
+    and refl and refl and refl and refl and refl and refl and refl and refl and refl and refl and refl and refl and refl and refl and refl and refl and refl and refl and refl and refl and refl and refl and refl and refl and refl and refl and refl and done

@@ -1,5 +1,5 @@
 -- The seven calls of a program, right or wrong: functions of what they are given, whose answers have what they leave in the memory that
--- they were lent to write. Memory lent to be read alone is in no answer: the code's types lend it so. A program that remembers more between
+-- they were lent to write. Memory lent to be read alone is in no answer, or is there as it was: the code's types lend it so. A program that remembers more between
 -- its calls than the state and what it is lent is no such record; the code has nothing to remember it in. The rules' own calls are `ruled`. These are
 -- definitions.
 use Prim.Native.Nat.{ℕ}

@@ -1,5 +1,5 @@
--- A history of any seven calls: calls of any kind and number, refused ones among them, on one list and one log that is always lent whole,
--- each given the last state answered; and the steps that stand after it. These are definitions.
+-- A history of any seven calls: calls of any kind and number, refused ones among them, on one list, with one log and one buffer of kept
+-- states that are always lent whole, each given the last state answered; and the steps that stand after it. These are definitions.
 use Prim.Native.Nat.{ℕ, zero, suc}
 use mathlib.Core.List.{List, [], _∷_, _++_}
 use mathlib.Core.Option.{Option, none, some}

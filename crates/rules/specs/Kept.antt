@@ -20,7 +20,7 @@ kept-short kept = ltb (length kept) (kept-length * max-kept)
 abbrev pub kept-offset : ℕ → ℕ
 kept-offset j = kept-length * (j - 1)
 
--- two bytes and four, low byte first
+-- two bytes and four, low byte first, the last whole (those of a list record take each modulo 256)
 abbrev pub in-two : ℕ → List ℕ
 in-two x = x % 256 ∷ x / 256 ∷ []
 
@@ -64,7 +64,8 @@ kept-zeros kept j =
     let at = kept-offset j in
     each (λ i. eqb (getD kept (at + 160 + i) 0) 0) 16 && each (λ i. eqb (getD kept (at + 180 + i) 0) 0) 4
 
--- "for the kept state used if it is not sound or its m or B is another than its place and the state given say" is what it is not
+-- "for the kept state used if it is not sound or its m or B is another than its place and the state given say" is what it is not, and bytes that
+-- are to be zero are
 unfoldable pub kept-right : List ℕ → List ℕ → ℕ → ℕ → Bool
 kept-right list kept b j =
     let s = kept-state kept j in

@@ -1,5 +1,4 @@
--- What START, STEP, RUN and UNDO are lent to keep a run in: "the same log buffer", and document 02's "lent buffer beside the log". This is a
--- definition.
+-- What START, STEP, RUN and UNDO are lent to keep a run in: the log, and document 02's "lent buffer beside the log". This is a definition.
 use Prim.Native.Nat.{ℕ}
 use mathlib.Core.List.{List}
 

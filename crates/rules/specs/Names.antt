@@ -117,7 +117,7 @@ max-steps = 4096
 abbrev pub kept-every : ℕ
 kept-every = 64
 
--- kept states, the last of them after so many times as many steps
+-- kept states: the last after 64 times 64 steps
 abbrev pub max-kept : ℕ
 max-kept = 64
 

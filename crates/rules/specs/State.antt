@@ -19,7 +19,7 @@ pub record State : Type 0 where
   pub b : ℕ
   pub m : ℕ
 
--- A state is made in two ways: with no steps, and by one step more
+-- A state is made with no steps, by one step more, and (in Kept) of what a kept place holds
 abbrev pub stepless : List ℕ → List ℕ → List ℤ → ℕ → ℕ → State
 stepless vars positions priorities n b =
     record {

@@ -1,4 +1,4 @@
 pub mod Runs
 pub mod Replays
 pub mod Only
-pub mod Past
+pub mod Parts

@@ -2,35 +2,48 @@
 -- Assumes nothing.
 use Prim.Native.Nat.{ℕ, zero, suc, _+_, _-_, _*_, _≤_}
 use mathlib.Core.Path.{_≡_, sym, ap, _∙_}
-use mathlib.Core.Bool.{Bool, true, false, _&&_, true≢false, false≢true}
+use mathlib.Core.Logic.{_≢_}
+use mathlib.Core.Bool.{_&&_, true≢false}
 use mathlib.Core.List.{List}
 use native.Mathlib.Omega.{arith}
-use lib.Dec.{eqb, leb, ltb}
-use lib.ListN.{length}
-use borrow.Author.Tests.{eqb-true, eq-eqb, ne-eqb, le-ltb, ltb-false}
-use Rattle.rules.specs.Words.{if_then_else_, each, judge}
-use Rattle.rules.specs.Names.{STATE, LOG, max-steps, max-kept, kept-every, kept-length}
+use lib.Dec.{eqb, leb}
+use lib.ListN.{length, drop}
+use borrow.Author.Tests.{eqb-true, eq-eqb, ne-eqb, le-ltb}
+use Rattle.rules.specs.Words.{if_then_else_, each, Test, judge, refusal}
+use Rattle.rules.specs.Names.{LOG, max-steps, max-kept, kept-every, kept-length}
 use Rattle.rules.specs.Records.{pick-at}
 use Rattle.rules.specs.List.{stations}
 use Rattle.rules.specs.State.{State}
 use Rattle.rules.specs.Lent.{Lent}
-use Rattle.rules.specs.Kept.{kept-short, kept-right}
+use Rattle.rules.specs.Kept.{kept-offset}
+use Rattle.rules.specs.Start.{started}
 use Rattle.rules.specs.Step.{stepped, picked}
-use Rattle.rules.specs.Undo.{replay, starts-right, nearest, nearest-state, replayed-near, undo}
+use Rattle.rules.specs.Undo.{replay, starts-right, restarted, nearest, nearest-state, replayed-near, before-replay, undo}
 use Rattle.laws.specs.Parts.{of-parts}
-use Rattle.laws.specs.Passed.{KeptRoom, CanReplay}
+use Rattle.laws.specs.Passed.{Known, KeptRoom, CanReplay}
 use Rattle.laws.proofs.Choice.{by-test}
+use Rattle.laws.proofs.Passed.{kept-passed}
 use Rattle.laws.proofs.Answers.{picked-state, undo-replayed}
 use Rattle.laws.proofs.Sound.{sound-means}
+use Rattle.fair.proofs.Withdrawn.{nearest-sound}
 use Rattle.picking.specs.Took.{Took}
 use Rattle.replaying.specs.Replayed.{took-from, as-took}
 use Rattle.replaying.proofs.Known.{replay-known}
-use Rattle.run.specs.Nearest.{undone-from, From, Begins}
 
 pub starts-counted : (list log : List ℕ) (b n : ℕ) → n ≡ stations list
     → starts-right list b log ≡ each (λ j. eqb (pick-at log j .station) j && leb (pick-at log j .reset) b) n
 unfolding starts-right
 starts-counted list log b n counted = rw counted
+
+-- an undo's tests past those of list, state, EMPTY and the kept states' room, which refuse nothing: the last three decide
+abbrev pub last-three : List ℕ → State → Lent → List Test
+last-three list s lent = drop 4 (before-replay list s lent)
+
+pub last-decide : (list : List ℕ) (s : State) (lent : Lent) → Known list s → s .m ≢ 0 → KeptRoom lent
+    → refusal (before-replay list s lent) ≡ refusal (last-three list s lent)
+unfolding judge
+last-decide list s lent known some room =
+    rw (known .of-list, known .of-state, ne-eqb (s .m) 0 some, le-ltb (length (lent .kept)) (kept-length * max-kept) room)
 
 -- a replay that is not refused has the stations and the largest reset that it began with, and as many steps more as it replayed
 replay-counts : (list log : List ℕ) (i count : ℕ) (s : State) → replay list log i count s .number ≡ 0
@@ -49,106 +62,64 @@ replay-counts list log i (suc count) s none =
     rw e (rw (n, b, m) at (replay-counts list log (suc i) count (picked list s p .state) (rw e at none))))
     (λ e. absurd (true≢false (sym (eq-eqb _ 0 (rw e at none)) ∙ e)))
 
--- an undo that its replay decides goes from where it begins
-pub undo-from : (list : List ℕ) (s : State) (lent : Lent) (q : ℕ) → q ≡ nearest (s .m) → CanReplay list s lent
-    → undo list s lent ≡ undone-from list (lent .log) s q (nearest-state list lent (s .b) q)
-unfolding replayed-near undone-from
-undo-from list s lent q place can = rw place (undo-replayed list s lent can)
+module _ (list : List ℕ) (s : State) (lent : Lent) (can : CanReplay list s lent) where
+  abbrev q : ℕ
+  q = nearest (s .m)
 
--- the stations of the state that it begins with are those of the state given
-pub same-stations : (list : List ℕ) (s : State) (q : ℕ) (back : State) → Begins list s q back → back .n ≡ s .n
-same-stations list s q back begins =
-    sound-means list back .0 (begins .of-state) .of-list ∙ sym (sound-means list s .0 (begins .from .known .of-state) .of-list)
+  abbrev near : State
+  near = nearest-state list lent (s .b) q
 
--- so that the replay is that of its parts, with the stations and the largest reset of the state given
-pub replay-begins : (list log : List ℕ) (s : State) (q : ℕ) (back : State) (i count : ℕ) → Begins list s q back → back .m + count ≤ max-steps
-    → took-from list log (s .n) (s .b) i count (record { number = 0; vars = back .vars; positions = back .positions; priorities = back .priorities })
-    ≡ as-took (replay list log i count back)
-replay-begins list log s q back i count begins few =
-    let parts : Took = record { number = 0; vars = back .vars; positions = back .positions; priorities = back .priorities } in
-    ap (λ (n : ℕ). took-from list log n (s .b) i count parts) (sym (same-stations list s q back begins))
-    ∙ ap (λ (b : ℕ). took-from list log (back .n) b i count parts) (sym (begins .b-is))
-    ∙ replay-known list log i count back (record { of-list = begins .from .known .of-list; of-state = begins .of-state }) few
+  abbrev count : ℕ
+  count = s .m - 1 - kept-every * q
 
--- and gives back the parts that the replay reached, with a step less
-pub undone-took :
-    (list log : List ℕ) (s : State) (q : ℕ) (back : State) {t : Took} → Begins list s q back
-    → t ≡ as-took (replay list log (s .n + kept-every * q) (s .m - 1 - kept-every * q) back)
-    → undone-from list log s q back
-    ≡ (if eqb (t .number) 0 then record { number = 0; state = of-parts (t .vars) (t .positions) (t .priorities) (s .n) (s .b) (s .m - 1) }
-    else record { number = LOG; state = s })
-unfolding undone-from
-undone-took list log s q back begins is =
-    let from = begins .from in
-    let counted = sound-means list s .0 (from .known .of-state) .of-list in
-    let same = same-stations list s q back begins in
-    by-test (eqb (replay list log (s .n + kept-every * q) (s .m - 1 - kept-every * q) back .number) 0)
-    (λ e.
-    let steps : back .m + (s .m - 1 - kept-every * q) ≡ s .m - 1 = omega (arith, begins .steps, from .place, from .some-steps) in
-    let r = replay list log (s .n + kept-every * q) (s .m - 1 - kept-every * q) back .state in
-    let is-parts : r ≡ of-parts (r .vars) (r .positions) (r .priorities) (s .n) (s .b) (s .m - 1) =
-    replay-counts list log (s .n + kept-every * q) (s .m - 1 - kept-every * q) back (eqb-true _ 0 e)
-    ∙ (λ i. of-parts (r .vars) (r .positions) (r .priorities) (same i) (begins .b-is i) (steps i)) in
-    rw (← counted, is, e) (ap (λ (r : State). record { number = 0; state = r }) is-parts))
-    (λ e. rw (← counted, is, e))
+  few-steps : s .m ≤ max-steps
+  few-steps = sound-means list s .0 (can .of-state) .few-steps
 
--- an undo past the tests that come before it is known where it goes from
-module _ (list : List ℕ) (s : State) (lent : Lent) (q : ℕ) (from : From list s q) (kept-room : KeptRoom lent) where
-  some-steps : eqb (s .m) 0 ≡ false
-  some-steps = ne-eqb (s .m) 0 (omega (arith, from .some-steps))
+  pub counted : s .n ≡ stations list
+  counted = sound-means list s .0 (can .of-state) .of-list
 
-  roomy : kept-short (lent .kept) ≡ false
-  roomy = le-ltb (length (lent .kept)) (kept-length * max-kept) kept-room
+  -- the buffer has the kept place
+  pub has-place : kept-offset q + kept-length ≤ length (lent .kept)
+  has-place = omega (arith, few-steps, can .kept-room)
 
-  abbrev short-log : Bool
-  short-log = ltb (length (lent .log)) (2 * (s .n + s .m))
+  -- the state that the replay begins with has the stations, the largest reset and the steps of its place
+  pub near-n : near .n ≡ s .n
+  near-n = sound-means list near .0 (nearest-sound list s lent can .0) .of-list ∙ sym counted
 
-  -- from the start records
-  module _ (none : q ≡ 0) where
-    place-none : eqb (nearest (s .m)) 0 ≡ true
-    place-none = eq-eqb (nearest (s .m)) 0 (sym (from .place) ∙ none)
+  pub near-b : near .b ≡ s .b
+  unfolding restarted started
+  near-b = by-test (eqb q 0) (λ e. rw e) (λ e. rw e (kept-passed list (lent .kept) (s .b) q .0 (can .kept-used e) .b-is))
 
-    pub start-log-short : short-log ≡ true → undo list s lent ≡ record { number = LOG; state = s }
-    unfolding undo judge
-    start-log-short short = rw (from .known .of-list, from .known .of-state, some-steps, roomy, place-none, short)
+  -- so that a replay of its parts is the rules'
+  pub near-took : {t : Took}
+      → t ≡ took-from list (lent .log) (s .n) (s .b) (s .n + kept-every * q) count (record { number = 0; vars = near .vars; positions = near .positions; priorities = near .priorities })
+      → t ≡ as-took (replayed-near list lent (s .b) (s .m))
+  unfolding replayed-near
+  near-took is =
+      let parts : Took = record { number = 0; vars = near .vars; positions = near .positions; priorities = near .priorities } in
+      let at : s .n + kept-every * q ≡ stations list + kept-every * q = omega (arith, counted) in
+      let sound = nearest-sound list s lent can in
+      is
+      ∙ ap (λ (n : ℕ). took-from list (lent .log) n (s .b) (s .n + kept-every * q) count parts) (sym near-n)
+      ∙ ap (λ (b : ℕ). took-from list (lent .log) (near .n) b (s .n + kept-every * q) count parts) (sym near-b)
+      ∙ replay-known list (lent .log) (s .n + kept-every * q) count near (record { of-list = can .of-list; of-state = sound .0 })
+      (omega (arith, sound .1, few-steps, can .some-steps))
+      ∙ ap (λ (i : ℕ). as-took (replay list (lent .log) i count near)) at
 
-    pub start-wrong : short-log ≡ false → starts-right list (s .b) (lent .log) ≡ false → undo list s lent ≡ record { number = LOG; state = s }
-    unfolding undo judge
-    start-wrong long wrong = rw (from .known .of-list, from .known .of-state, some-steps, roomy, place-none, long, wrong)
-
-    pub start-can-replay : short-log ≡ false → starts-right list (s .b) (lent .log) ≡ true → CanReplay list s lent
-    start-can-replay long right =
-        record {
-          of-list = from .known .of-list;
-          of-state = from .known .of-state;
-          some-steps = from .some-steps;
-          kept-room = kept-room;
-          kept-used = λ e. absurd (false≢true (sym e ∙ place-none));
-          room = ltb-false _ _ long;
-          starts = λ e. right;
-        }
-
-  -- from a kept place
-  module _ (some : 1 ≤ q) where
-    place-some : eqb (nearest (s .m)) 0 ≡ false
-    place-some = ne-eqb (nearest (s .m)) 0 (omega (arith, from .place))
-
-    pub kept-wrong : kept-right list (lent .kept) (s .b) q ≡ false → undo list s lent ≡ record { number = STATE; state = s }
-    unfolding undo judge
-    kept-wrong wrong = rw (from .known .of-list, from .known .of-state, some-steps, roomy, place-some, rw (from .place) at wrong)
-
-    pub kept-log-short : kept-right list (lent .kept) (s .b) q ≡ true → short-log ≡ true → undo list s lent ≡ record { number = LOG; state = s }
-    unfolding undo judge
-    kept-log-short right short = rw (from .known .of-list, from .known .of-state, some-steps, roomy, place-some, rw (from .place) at right, short)
-
-    pub kept-can-replay : kept-right list (lent .kept) (s .b) q ≡ true → short-log ≡ false → CanReplay list s lent
-    kept-can-replay right long =
-        record {
-          of-list = from .known .of-list;
-          of-state = from .known .of-state;
-          some-steps = from .some-steps;
-          kept-room = kept-room;
-          kept-used = λ e. rw (from .place) at right;
-          room = ltb-false _ _ long;
-          starts = λ e. absurd (false≢true (sym place-some ∙ e));
-        }
+  -- and an undo gives back the parts that its replay reached, with a step less
+  pub undo-took : {t : Took} → t ≡ as-took (replayed-near list lent (s .b) (s .m))
+      → undo list s lent
+      ≡ (if eqb (t .number) 0 then record { number = 0; state = of-parts (t .vars) (t .positions) (t .priorities) (s .n) (s .b) (s .m - 1) }
+      else record { number = LOG; state = s })
+  unfolding replayed-near
+  undo-took is =
+      let r = replay list (lent .log) (stations list + kept-every * q) count near in
+      undo-replayed list s lent can
+      ∙ by-test (eqb (r .number) 0)
+      (λ e.
+      let steps : near .m + count ≡ s .m - 1 = omega (arith, nearest-sound list s lent can .1, can .some-steps) in
+      let is-parts : r .state ≡ of-parts (r .state .vars) (r .state .positions) (r .state .priorities) (s .n) (s .b) (s .m - 1) =
+      replay-counts list (lent .log) (stations list + kept-every * q) count near (eqb-true _ 0 e)
+      ∙ (λ i. of-parts (r .state .vars) (r .state .positions) (r .state .priorities) (near-n i) (near-b i) (steps i)) in
+      rw (is, e) (ap (λ (t : State). record { number = 0; state = t }) is-parts))
+      (λ e. rw (is, e))

@@ -1,4 +1,3 @@
 -- The code's states and answers, set beside the rules; and what is promised of them.
 pub mod View
 pub mod Promises
-pub mod Nearest

@@ -55,4 +55,4 @@ met =
 
 pub deep : Deep
 unfolding each first tally mask values changed written judge record-from list-record-at rules-of fields-right stride wrong-at walked well-shaped too-deep-at check wrong-length field-place station-count depth-place parts-of stations-of leading-sets initial-part size laid inits bodies list-of bytes-of stations initials-after is-at init-right initial-right outside-targets inside-target inside-targets later-right sound-list few-low empty-at sound-state set-value holds initial-run started start-records start readiness-at readiness ended waiting ready lowest body-run step-vars step-position charge stepped picked keep step steps-from run replay starts-right restarted replayed-near undo stepped-on single-steps called calls-from passed-over joined encoded kept-state kept-zeros kept-right
-deep = record { accepted = accepted-is counter .0 refl; stands = refl; undone = refl; counted = refl; used = refl }
+deep = record { accepted = accepted-is counter .0 refl; stands = refl; high = refl; undone = refl; counted = refl; used = refl }

@@ -1,8 +1,9 @@
--- The demands' premises can be met, with a log of junk, a run refused part-way and an undo among the calls; and the bound on passing over
--- is met with equality. P10's two stations. This is a claim, and proofs/Witness.antt shows it.
+-- The demands' premises can be met, with a log and kept states of junk, a run refused part-way and an undo among the calls, and the bound on
+-- passing over with equality: by P10's two stations. And they can be met where an undo goes from a kept state. These are claims, and
+-- proofs/Witness.antt shows them.
 use mathlib.Core.Path.{_≡_}
 use mathlib.Core.List.{List, [], _∷_, _++_}
-use mathlib.Core.Option.{some}
+use mathlib.Core.Option.{Option, none, some}
 use Prim.Native.Nat.{ℕ, _+_, _*_}
 use lib.ListN.{getD, replicate}
 use Rattle.rules.specs.Names.{STATE, TURN, STATION, SKIP, SET, WHILE, OD, max-kept, kept-length}
@@ -14,7 +15,7 @@ use Rattle.rules.specs.Start.{started}
 use Rattle.rules.specs.Step.{stepped}
 use Rattle.rules.specs.Undo.{undo}
 use Rattle.rules.specs.Calls.{ruled}
-use Rattle.rules.specs.History.{Call, START, STEP, RUN, UNDO, Steps, begun, taken, start-b, Now, answered, history}
+use Rattle.rules.specs.History.{Call, START, STEP, RUN, UNDO, Steps, begun, taken, start-b, height, Now, answered, history}
 use Rattle.rules.specs.Passed.{passed-over, Unpicked}
 use Rattle.reading.specs.Accepted.{Accepted}
 use Rattle.built.specs.Built.{built}
@@ -80,10 +81,16 @@ deep-calls = START 0 (0 ∷ []) ∷ RUN (replicate 132 0) 99 ∷ []
 abbrev deep-now : Now
 deep-now = history ruled (built counter) zeros long-junk deep-calls
 
--- an undo of the 66th step goes from the kept state of the 64th, and is refused where that is not there
+-- what stands, or a start with nothing where nothing does
+abbrev stack : Option Steps → Steps
+stack none = begun 0 [] zeros
+stack (some steps) = steps
+
+-- 66 steps stand, an undo of the last goes from the kept state of the 64th, and it is refused where that is not there
 pub record Deep : Type 0 where
   pub accepted : Accepted counter
-  pub stands : deep-now .state .m ≡ 66
+  pub stands : deep-now .standing ≡ some (stack (deep-now .standing))
+  pub high : height (stack (deep-now .standing)) ≡ 66
   pub undone : undo (built counter) (deep-now .state) (deep-now .lent) .state .m ≡ 65
   pub counted : getD (undo (built counter) (deep-now .state) (deep-now .lent) .state .vars) 0 0 ≡ 32
   pub used : undo (built counter) (deep-now .state) (record { log = deep-now .lent .log; kept = long-junk .kept }) .number ≡ STATE
