@@ -3,6 +3,7 @@
 mod cases;
 mod fields;
 mod hash;
+mod kept;
 mod lines;
 mod states;
 

@@ -1,10 +1,10 @@
--- `vectors::fields::put` is safe. The loop's invariant: the buffer has kept its length. The measure is what is left of the count. Assumes nothing.
+-- `vectors::kept::put` is safe. The loop's invariant: the buffer has kept its length. The measure is what is left of the count. Assumes nothing.
 use Prim.Native.Nat.{_-_, _≤_}
 use mathlib.Core.Path.{_≡_}
 use lib.ListN.{length}
 use borrow.Author.Needs.{needs}
-use Rattle.vectors.proofs.fields.put.Statement.{statement}
-use Rattle.vectors.proofs.fields.put.Tie as tie
+use Rattle.vectors.proofs.kept.put.Statement.{statement}
+use Rattle.vectors.proofs.kept.put.Tie as tie
 
 abbrev Inv-loop : tie.InvT-loop
 Inv-loop kept₀ offset made from count i₀ kept i = (i ≤ count) × (length kept ≡ length kept₀)

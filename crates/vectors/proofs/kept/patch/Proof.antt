@@ -1,11 +1,11 @@
--- `vectors::fields::patch` is safe. The loop's invariant: the buffer has kept its length, and no patch ends far behind the longest field. The
+-- `vectors::kept::patch` is safe. The loop's invariant: the buffer has kept its length, and no patch ends far behind the longest field. The
 -- measure is what is left up to there. Assumes nothing.
 use Prim.Native.Nat.{_-_, _≤_}
 use mathlib.Core.Path.{_≡_}
 use lib.ListN.{length}
 use borrow.Author.Needs.{needs}
-use Rattle.vectors.proofs.fields.patch.Statement.{statement}
-use Rattle.vectors.proofs.fields.patch.Tie as tie
+use Rattle.vectors.proofs.kept.patch.Statement.{statement}
+use Rattle.vectors.proofs.kept.patch.Tie as tie
 
 abbrev Inv-loop : tie.InvT-loop
 Inv-loop kept₀ made at₀ kept at = (at ≤ 131073) × (length kept ≡ length kept₀)

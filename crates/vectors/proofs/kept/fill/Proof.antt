@@ -1,12 +1,12 @@
--- `vectors::fields::fill` is safe. The loop's invariant: the buffer has kept its length, and the sum is a byte. The measure is what is left of the
+-- `vectors::kept::fill` is safe. The loop's invariant: the buffer has kept its length, and the sum is a byte. The measure is what is left of the
 -- length. Assumes nothing.
 use Prim.Native.Nat.{_-_, _≤_, _<_}
 use mathlib.Core.Path.{_≡_}
 use native.Mathlib.Omega.{arith}
 use lib.ListN.{length, length-set}
 use borrow.Author.Needs.{needs}
-use Rattle.vectors.proofs.fields.fill.Statement.{statement}
-use Rattle.vectors.proofs.fields.fill.Tie as tie
+use Rattle.vectors.proofs.kept.fill.Statement.{statement}
+use Rattle.vectors.proofs.kept.fill.Tie as tie
 
 abbrev Inv-loop : tie.InvT-loop
 Inv-loop kept₀ f x₀ i₀ kept x i = (i ≤ length kept) × (x < 256) × (length kept ≡ length kept₀)
