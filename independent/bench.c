@@ -37,10 +37,10 @@ enum { STACK_BYTES = 1 << 20, PAINT = 0xA5, MOST_RESET = 3 };
 
 /* ---- inputs */
 
-enum call { CHECK, BUILD, START, STEP, ADVANCE, RUN, UNDO, READINESS, LIGHTS, CALLS };
+enum call { CHECK, BUILD, START, STEP, ADVANCE, RUN, UNDO, READINESS, WHY, LIGHTS, CALLS };
 
-static const char *const call_names[CALLS] = {"check", "build", "start",     "step",  "advance",
-                                              "run",   "undo",  "readiness", "lights"};
+static const char *const call_names[CALLS] = {"check", "build", "start",     "step", "advance",
+                                              "run",   "undo",  "readiness", "why",  "lights"};
 
 /* What a call is given. The log and the kept states are those of a run that stands; step and run write to others. */
 struct input {
@@ -338,6 +338,17 @@ static struct input *with_steps(const struct input *before, size_t steps)
     return in;
 }
 
+/* The same state with the last station alone in turn; the first pick is of the first, which is behind. */
+static struct input *with_behind(const struct input *before)
+{
+    struct input *in = new_input();
+    *in = *before;
+    in->state.pri[in->state.n - 1] = 0;
+    in->our_state = same_as(&in->state);
+    in->picks[0] = 0;
+    return in;
+}
+
 /* ---- the calls */
 
 union our_answer {
@@ -348,6 +359,7 @@ union our_answer {
     press_ran ran;
     press_outcome undone;
     press_told told;
+    press_reason reason;
     press_lit lit;
 };
 
@@ -357,6 +369,7 @@ union their_answer {
     struct ind_state_answer state;
     struct ind_run_answer ran;
     struct ind_readiness_answer told;
+    struct ind_why_answer reason;
     struct ind_lights_answer lit;
 };
 
@@ -392,6 +405,7 @@ IDLE(press_ran, run, press_state state, const uint8_t *list, size_t list_len, ui
 IDLE(press_outcome, undo, press_state state, const uint8_t *list, size_t list_len, const uint8_t *log, size_t log_len,
      const uint8_t *kept, size_t kept_len)
 IDLE(press_told, readiness, press_state state, const uint8_t *list, size_t list_len, uint8_t station)
+IDLE(press_reason, why, press_state state, const uint8_t *list, size_t list_len, uint8_t station)
 IDLE(press_lit, lights, press_state state, const uint8_t *list, size_t list_len)
 #pragma GCC diagnostic pop
 
@@ -445,13 +459,19 @@ static void their_readiness(const struct input *in, union their_answer *r)
     r->told = ind_readiness(in->list, in->list_len, in->state, in->picks[0]);
 }
 
+/* Why of the same. */
+static void their_why(const struct input *in, union their_answer *r)
+{
+    r->reason = ind_why(in->list, in->list_len, in->state, in->picks[0]);
+}
+
 static void their_lights(const struct input *in, union their_answer *r)
 {
     r->lit = ind_lights(in->list, in->list_len, in->state);
 }
 
 static their_call *const their_calls[CALLS] = {their_check, their_build, their_start, their_step, their_step,
-                                               their_run, their_undo, their_readiness, their_lights};
+                                               their_run, their_undo, their_readiness, their_why, their_lights};
 
 /* Both answers to a call are the same and have the expected number. */
 static int right(enum call call, const union our_answer *r, const union their_answer *t, uint8_t number)
@@ -467,6 +487,8 @@ static int right(enum call call, const union our_answer *r, const union their_an
             && same_state(&r->ran.state, &t->ran.state);
     case READINESS:
         return r->told.number == number && t->told.number == number && r->told.place == t->told.place;
+    case WHY:
+        return r->reason.number == number && same_reason(&r->reason, &t->reason);
     case LIGHTS:
         return r->lit.number == number && t->lit.number == number && r->lit.ready == t->lit.ready
             && r->lit.in_turn == t->lit.in_turn && r->lit.waiting == t->lit.waiting && r->lit.ended == t->lit.ended
@@ -691,6 +713,10 @@ static void make_run_subjects(void)
     subject(READINESS, "list of 7 records", 0, small, NULL, "");
     subject(READINESS, "list of 1,032 records", 0, all, few, "records of the list");
     subject(READINESS, "8 waiting at AWAITs of 100 records", IND_NOT_READY, waiting, short_waiting, "records of a body");
+    subject(WHY, "list of 7 records", 0, small, NULL, "");
+    subject(WHY, "list of 1,032 records", 0, all, few, "records of the list");
+    subject(WHY, "8 waiting at AWAITs of 100 records", IND_NOT_READY, waiting, short_waiting, "records of a body");
+    subject(WHY, "8 ready, behind, 1,032 records", IND_TURN, with_behind(all), with_behind(few), "records of the list");
     subject(LIGHTS, "8 ready at AWAITs of 100 records", 0, bodies, short_bodies, "records of a body");
     subject(LIGHTS, "8 waiting at AWAITs of 100 records", 0, waiting, short_waiting, "records of a body");
 }

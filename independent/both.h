@@ -29,4 +29,11 @@ static inline int same_state(const press_state *s, const struct ind_state *t)
         && memcmp(s->priorities, t->pri, sizeof s->priorities) == 0 && s->n == t->n && s->b == t->b && s->m == t->m;
 }
 
+static inline int same_reason(const press_reason *r, const struct ind_why_answer *t)
+{
+    return r->number == t->number && r->ahead == t->ahead && r->place == t->place && r->count == t->count
+        && memcmp(r->variables, t->variables, sizeof r->variables) == 0
+        && memcmp(r->values, t->values, sizeof r->values) == 0;
+}
+
 #endif

@@ -51,10 +51,17 @@ static void CALLER(readiness)(const struct input *in, union our_answer *r)
     r->told = CALLEE(readiness)(in->our_state, in->list, in->list_len, in->picks[0]);
 }
 
+/* Why of the same. */
+static void CALLER(why)(const struct input *in, union our_answer *r)
+{
+    r->reason = CALLEE(why)(in->our_state, in->list, in->list_len, in->picks[0]);
+}
+
 static void CALLER(lights)(const struct input *in, union our_answer *r)
 {
     r->lit = CALLEE(lights)(in->our_state, in->list, in->list_len);
 }
 
 static our_call *const CALLER(calls)[CALLS] = {CALLER(check), CALLER(build), CALLER(start), CALLER(step), CALLER(advance),
-                                               CALLER(run), CALLER(undo), CALLER(readiness), CALLER(lights)};
+                                               CALLER(run), CALLER(undo), CALLER(readiness), CALLER(why),
+                                               CALLER(lights)};

@@ -12,9 +12,9 @@
  *   cases answer            reads a stream and prints one line a case
  *
  * The stream has no header.  A case is one byte for the call (1 check,
- * 2 build, 3 start, 4 step, 5 run, 6 undo, 7 lights, 8 trace, 9 readiness),
- * then the call's fields in order, each as a 2-byte length, low byte first, and
- * its bytes:
+ * 2 build, 3 start, 4 step, 5 run, 6 undo, 7 lights, 8 trace, 9 readiness,
+ * 10 why), then the call's fields in order, each as a 2-byte length, low byte
+ * first, and its bytes:
  *
  *   1 check       file
  *   2 build       file, buffer
@@ -25,6 +25,7 @@
  *   7 lights      list, state
  *   8 trace       program, start, picks
  *   9 readiness   list, state, station (1 byte)
+ *   10 why        list, state, station (1 byte)
  *
  * A state is 164 bytes: 32 variables of 4, 8 positions of 2, 8 priorities of
  * 2 (two's complement), n, B, m of 2; low bytes first.
@@ -47,6 +48,7 @@
  *   7 number ready in-turn waiting ended H(the 64 bytes of the rows)
  *   8 length H(text)
  *   9 number place
+ *   10 number place ahead count variable variable value value
  *
  * H is 7 at first and for each byte b becomes h * 31 + b + 1 mod 2^32; of a
  * lent buffer it is taken of all its bytes, after the call.
@@ -57,20 +59,22 @@
 
 #include "press.h"
 #include "random.h"
+#include "samples.h"
 
 enum call { CHECK = 1, BUILD, START, STEP, RUN, UNDO, LIGHTS, TRACE,
-            READINESS };
+            READINESS, WHY };
 
-enum { STATE_BYTES = 164, MAX_FIELDS = 6, NUMBERS = 17, CALLS = 10,
+enum { STATE_BYTES = 164, MAX_FIELDS = 6, NUMBERS = 17, CALLS = 11,
        ROUNDS = 75, READINESS_ROUNDS = 70, LIGHTS_ROUNDS = 30,
-       KEPT_ROUNDS = 32, SMALL_LIST = 192, KEPT_LIST = 480 };
+       KEPT_ROUNDS = 32, WHY_ROUNDS = 80, SMALL_LIST = 192, KEPT_LIST = 480,
+       WHY_LIST = 256 };
 
 static const char *const call_name[CALLS] = {
     "", "check", "build", "start", "step", "run", "undo", "lights", "trace",
-    "readiness"
+    "readiness", "why"
 };
 
-static const uint8_t field_count[CALLS] = { 0, 1, 2, 5, 5, 6, 4, 2, 3, 3 };
+static const uint8_t field_count[CALLS] = { 0, 1, 2, 5, 5, 6, 4, 2, 3, 3, 3 };
 
 /* The numbers that the documents allow each call.  The trace's own buffers
  * are never short, its lists and states are sound, 4,096 picks never fill it
@@ -87,7 +91,8 @@ static const uint8_t allowed[CALLS][NUMBERS] = {
     /* undo  */ { 1, 0, 0, 0, 0, 0, 1, 1, 1, 0, 0, 0, 0, 0, 1, 1 },
     /* lights*/ { 1, 0, 0, 0, 0, 0, 0, 1, 1 },
     /* trace */ { 1, 1, 1, 1, 1, 1, 0, 0, 0, 0, 1, 1, 1, 1, 1, 0, 1 },
-    /* ready.*/ { 1, 0, 0, 0, 0, 0, 0, 1, 1, 0, 1, 1, 0, 0, 0, 0, 1 }
+    /* ready.*/ { 1, 0, 0, 0, 0, 0, 0, 1, 1, 0, 1, 1, 0, 0, 0, 0, 1 },
+    /* why   */ { 1, 0, 0, 0, 0, 0, 0, 1, 1, 0, 1, 1, 1, 0, 0, 0, 1 }
 };
 
 static void die(const char *why)
@@ -252,7 +257,7 @@ static int is_logged(uint8_t call)
 static int take_case(struct one *c, const uint8_t *bytes, size_t len,
                      size_t *at)
 {
-    if (*at >= len || bytes[*at] < CHECK || bytes[*at] > READINESS)
+    if (*at >= len || bytes[*at] < CHECK || bytes[*at] > WHY)
         return 0;
     memset(c, 0, sizeof *c);
     c->call = bytes[(*at)++];
@@ -292,6 +297,7 @@ static int take_case(struct one *c, const uint8_t *bytes, size_t len,
     case LIGHTS:
         return c->f[1].len == STATE_BYTES;
     case READINESS:
+    case WHY:
         return c->f[1].len == STATE_BYTES && c->f[2].len == 1;
     default:
         return 1;
@@ -464,6 +470,18 @@ static uint8_t answer_case(struct one *c, FILE *out)
         number = a.number;
         if (out != NULL)
             fprintf(out, "9 %u %u\n", a.number, a.place);
+        break;
+    }
+    case WHY: {
+        struct ind_why_answer a = ind_why(c->f[0].p, c->f[0].len,
+                                          unpack_state(c->f[1].p),
+                                          c->f[2].p[0]);
+
+        number = a.number;
+        if (out != NULL)
+            fprintf(out, "10 %u %u %u %u %u %u %lu %lu\n", a.number, a.place,
+                    a.ahead, a.count, a.variables[0], a.variables[1],
+                    (unsigned long)a.values[0], (unsigned long)a.values[1]);
         break;
     }
     default: {
@@ -756,14 +774,27 @@ static uint8_t case_lights(struct writer *w, const uint8_t *list, size_t len,
     return close_case(w);
 }
 
-static void case_readiness(struct writer *w, const uint8_t *list, size_t len,
-                           const struct ind_state *s, uint8_t station)
+/* What is asked of a station: readiness or why. */
+static void case_asked(struct writer *w, enum call call, const uint8_t *list,
+                       size_t len, const struct ind_state *s, uint8_t station)
 {
-    open_case(w, READINESS);
+    open_case(w, (uint8_t)call);
     field(w, list, len);
     state_field(w, s);
     field(w, &station, 1);
     close_case(w);
+}
+
+static void case_readiness(struct writer *w, const uint8_t *list, size_t len,
+                           const struct ind_state *s, uint8_t station)
+{
+    case_asked(w, READINESS, list, len, s, station);
+}
+
+static void case_why(struct writer *w, const uint8_t *list, size_t len,
+                     const struct ind_state *s, uint8_t station)
+{
+    case_asked(w, WHY, list, len, s, station);
 }
 
 static void case_trace(struct writer *w, const struct sequence *program,
@@ -829,6 +860,20 @@ static size_t go(struct press *x, const uint8_t *picks, size_t count)
 
     x->state = r.state;
     return r.steps;
+}
+
+/* Withdraws steps until m stand. */
+static void back_to(struct press *x, size_t m)
+{
+    while (x->state.m > m) {
+        struct ind_state_answer u = ind_undo(x->list, x->len, x->state, x->log,
+                                             sizeof x->log, x->kept,
+                                             sizeof x->kept);
+
+        if (u.number != IND_FINE)
+            die("an undo meant to be taken was refused");
+        x->state = u.state;
+    }
 }
 
 /* Patches kept place j, where there is one, with the press's. */
@@ -1704,12 +1749,19 @@ static const struct {
     { skip_list, sizeof skip_list, 1 }
 };
 
+/* Puts a list of n stations into the press. */
+static void load_list(struct press *x, const uint8_t *list, size_t len,
+                      size_t n)
+{
+    memcpy(x->list, list, len);
+    x->len = len;
+    x->n = n;
+}
+
 /* Puts the i-th hand-made list into the press. */
 static void load_hand(struct press *x, size_t i)
 {
-    memcpy(x->list, hand[i].list, hand[i].len);
-    x->len = hand[i].len;
-    x->n = hand[i].n;
+    load_list(x, hand[i].list, hand[i].len, hand[i].n);
 }
 
 /* The hand-made lists: shared bodies, several STOPs or none, records nobody
@@ -1950,13 +2002,71 @@ static void purge(struct sequence *p)
     add_bare(p, IND_OD);
 }
 
-/* Readiness of each station, of station n and of 255. */
-static void each_station(struct writer *w, const struct press *x,
-                         const struct ind_state *s)
+/* Readiness or why of each station, of station n and of 255. */
+static void each_station(struct writer *w, enum call call,
+                         const struct press *x, const struct ind_state *s)
 {
     for (size_t i = 0; i <= x->n; i++)
-        case_readiness(w, x->list, x->len, s, (uint8_t)i);
-    case_readiness(w, x->list, x->len, s, 255);
+        case_asked(w, call, x->list, x->len, s, (uint8_t)i);
+    case_asked(w, call, x->list, x->len, s, 255);
+}
+
+/* Readiness or why in the Dryer: station 1 waits, is ready, has ended, and one
+ * step back. */
+static void ask_dryer(struct writer *w, enum call call, struct press *x)
+{
+    static struct sequence p;
+    static const uint8_t picks[2][2] = { { 0, 0 }, { 1, 0 } };
+
+    dryer(&p);
+    load(x, &p);
+    set_going(x, 0, picks[0]);
+    each_station(w, call, x, &x->state);
+    for (int i = 0; i < 2; i++) {
+        go(x, picks[i], 1);
+        each_station(w, call, x, &x->state);
+    }
+    back_to(x, 1);
+    each_station(w, call, x, &x->state);
+}
+
+/* Readiness or why of station `first` to station 2 in each state that one of
+ * the changes makes. */
+static void ask_changed(struct writer *w, enum call call,
+                        const struct press *x, const struct change *changes,
+                        size_t count, uint8_t first)
+{
+    for (size_t i = 0; i < count; i++) {
+        struct ind_state s = changed(x->state, changes[i]);
+
+        for (uint8_t station = first; station <= 2; station++)
+            case_asked(w, call, x->list, x->len, &s, station);
+    }
+}
+
+/* The purge with B = 3, its first station ended. */
+static void purge_going(struct press *x)
+{
+    static struct sequence p;
+    static const uint8_t zeros[8];
+
+    purge(&p);
+    load(x, &p);
+    set_going(x, 3, zeros);
+    go(x, zeros, 1);
+}
+
+/* One station at AWAIT b op k. */
+static void awaiting(struct press *x, uint8_t b, uint8_t op, uint32_t k)
+{
+    static struct sequence p;
+    static const uint8_t zeros[8];
+
+    p.len = 0;
+    add_bare(&p, IND_STATION);
+    add_block(&p, IND_AWAIT, b, op, k);
+    load(x, &p);
+    set_going(x, 0, zeros);
 }
 
 /* The longest list, with an AWAIT in the highest place where one can be: its
@@ -1984,21 +2094,15 @@ static void readiness(struct writer *w)
     static struct sequence p;
     static struct press x;
     static const uint8_t zeros[8];
-    static const uint8_t dryer_picks[] = { 0, 0, 1, 0 };
+    static const struct change unsound[8] = {
+        { CHANGE_N, 0, 1 }, { CHANGE_N, 0, 3 }, { CHANGE_M, 0, 4097 },
+        { CHANGE_POS, 0, 5 },                     /* inside */
+        { CHANGE_POS, 1, 3 },                     /* the other's STOP */
+        { CHANGE_PRI, 0, 1 }, { CHANGE_PRI, 1, -2 }, { CHANGE_POS, 2, 3 }
+    };
     struct ind_state s;
 
-    /* the Dryer: station 1 waits, is ready, has ended, and back */
-    dryer(&p);
-    load(&x, &p);
-    set_going(&x, 0, zeros);
-    each_station(w, &x, &x.state);
-    go(&x, dryer_picks, 1);
-    each_station(w, &x, &x.state);
-    go(&x, dryer_picks + 2, 1);
-    each_station(w, &x, &x.state);
-    x.state = ind_undo(x.list, x.len, x.state, x.log, sizeof x.log, x.kept,
-                       sizeof x.kept).state;
-    each_station(w, &x, &x.state);
+    ask_dryer(w, READINESS, &x);
 
     /* 7, before 8 and 10: no list, half a record, a record cut off, a STOP
      * with a target */
@@ -2015,44 +2119,11 @@ static void readiness(struct writer *w)
     x.list[IND_ITEM * 3 + 10] = 0;
     /* 8, before 10: n, m, the other station's position, the station's own, a
      * priority, entries from n on */
-    for (int i = 0; i < 8; i++) {
-        s = x.state;
-        switch (i) {
-        case 0:
-            s.n = 1;
-            break;
-        case 1:
-            s.n = 3;
-            break;
-        case 2:
-            s.m = 4097;
-            break;
-        case 3:
-            s.pos[0] = 5;                         /* inside */
-            break;
-        case 4:
-            s.pos[1] = 3;                         /* the other's STOP */
-            break;
-        case 5:
-            s.pri[0] = 1;
-            break;
-        case 6:
-            s.pri[1] = -2;
-            break;
-        default:
-            s.pos[2] = 3;
-            break;
-        }
-        case_readiness(w, x.list, x.len, &s, 1);
-        case_readiness(w, x.list, x.len, &s, 2);
-    }
+    ask_changed(w, READINESS, &x, unsound, 8, 1);
 
     /* all three cases with m = 4,096, where no step is left, and 8 above;
      * whose turn it is does not matter */
-    purge(&p);
-    load(&x, &p);
-    set_going(&x, 3, zeros);
-    go(&x, zeros, 1);
+    purge_going(&x);
     s = x.state;
     for (uint16_t m = 4096; m <= 4097; m++) {
         s.m = m;
@@ -2077,13 +2148,7 @@ static void readiness(struct writer *w)
         };
 
         for (int i = 0; i < 4; i++) {
-            p.len = 0;
-            add_bare(&p, IND_STATION);
-            add(&p, IND_AWAIT, 0, 2, op, op < 4 ? pair[i][1] : 31);
-            add_bare(&p, IND_SKIP);
-            add_bare(&p, IND_END);
-            load(&x, &p);
-            set_going(&x, 0, zeros);
+            awaiting(&x, 2, op, op < 4 ? pair[i][1] : 31);
             x.state.var[2] = pair[i][0];
             x.state.var[31] = pair[i][1];
             case_readiness(w, x.list, x.len, &x.state, 0);
@@ -2094,13 +2159,7 @@ static void readiness(struct writer *w)
     for (int i = 0; i < 2; i++) {
         p.len = 0;
         add_bare(&p, IND_STATION);
-        add(&p, i == 0 ? IND_IF : IND_WHILE, 0, 0, 1, 0);
-        add_bare(&p, IND_SKIP);
-        if (i == 0) {
-            add_bare(&p, IND_ELSE);
-            add_bare(&p, IND_SKIP);
-        }
-        add_bare(&p, i == 0 ? IND_FI : IND_OD);
+        add_block(&p, i == 0 ? IND_IF : IND_WHILE, 0, 1, 0);
         load(&x, &p);
         set_going(&x, 0, zeros);
         case_readiness(w, x.list, x.len, &x.state, 0);
@@ -2126,16 +2185,14 @@ static void readiness(struct writer *w)
     p.len = 0;
     for (int i = 0; i < 8; i++) {
         add_bare(&p, IND_STATION);
-        add(&p, IND_AWAIT, 0, (uint8_t)(i % 2), 0, 0);
-        add_bare(&p, IND_SKIP);
-        add_bare(&p, IND_END);
+        add_block(&p, IND_AWAIT, (uint8_t)(i % 2), 0, 0);
     }
     load(&x, &p);
     set_going(&x, 0, zeros);
     x.state.var[1] = 1;
     x.state.pos[2] += 2;
     x.state.pos[7] += 2;
-    each_station(w, &x, &x.state);
+    each_station(w, READINESS, &x, &x.state);
 
     /* lists that someone else wrote, the station at each place: two STOPs,
      * none, one that is all; the AWAITs hold, then fail */
@@ -2599,9 +2656,7 @@ static void foreign_waiting(struct writer *w)
     static const uint8_t zeros[8];
     struct ind_state s;
 
-    memcpy(x.list, waiting_list, sizeof waiting_list);
-    x.len = sizeof waiting_list;
-    x.n = 1;
+    load_list(&x, waiting_list, sizeof waiting_list, 1);
     set_going(&x, 0, zeros);
     fails_and_holds(w, &x, 5);
     x.state.var[4] = 1;                   /* v4 differs from v9 */
@@ -2637,30 +2692,14 @@ static void foreign_waiting(struct writer *w)
     case_lights(w, x.list, x.len, &x.state);
     x.list[IND_ITEM * 5 + 1] = 0;
     for (int i = 0; i < 7; i++) {
-        s = x.state;
-        switch (i) {
-        case 0:
-            s.n = 1;
-            break;
-        case 1:
-            s.m = 4097;
-            break;
-        case 2:
-            s.pos[1] = 5;                 /* inside */
-            break;
-        case 3:
-            s.pos[0] = 4;                 /* the other's AWAIT */
-            break;
-        case 4:
-            s.pri[1] = 1;
-            break;
-        case 5:
-            s.pri[1] = -2;
-            break;
-        default:
-            s.pri[2] = 1;
-            break;
-        }
+        static const struct change unsound[7] = {
+            { CHANGE_N, 0, 1 }, { CHANGE_M, 0, 4097 },
+            { CHANGE_POS, 1, 5 },         /* inside */
+            { CHANGE_POS, 0, 4 },         /* the other's AWAIT */
+            { CHANGE_PRI, 1, 1 }, { CHANGE_PRI, 1, -2 }, { CHANGE_PRI, 2, 1 }
+        };
+
+        s = changed(x.state, unsound[i]);
         case_lights(w, x.list, x.len, &s);
     }
 }
@@ -2744,20 +2783,6 @@ static void go_to(struct press *x, int way, size_t m, uint8_t *picks)
         }
         if (go(x, pick, 1) != 1)
             die("a step meant to be taken was refused");
-    }
-}
-
-/* Withdraws steps until m stand. */
-static void back_to(struct press *x, size_t m)
-{
-    while (x->state.m > m) {
-        struct ind_state_answer u = ind_undo(x->list, x->len, x->state, x->log,
-                                             sizeof x->log, x->kept,
-                                             sizeof x->kept);
-
-        if (u.number != IND_FINE)
-            die("an undo meant to be taken was refused");
-        x->state = u.state;
     }
 }
 
@@ -3561,6 +3586,415 @@ static void kept_traces(struct writer *w)
 }
 
 /* ------------------------------------------------------------------ */
+/* Why a station was not picked                                       */
+/* ------------------------------------------------------------------ */
+
+/* Gives each variable a number of its own. */
+static void mark_variables(struct ind_state *s)
+{
+    for (uint32_t v = 0; v < IND_VARS; v++)
+        s->var[v] = 0xA1B2C300 + v;
+}
+
+/* Each reason in runs of the bench cases, there and back. */
+static void reasons(struct writer *w)
+{
+    static struct sequence p;
+    static struct press x;
+    static const uint8_t loop_resets[] = { 0, 1 };
+    static const uint8_t loop_picks[] = { 0, 0, 0, 0, 1, 1, 0, 0 };
+    struct ind_state s;
+
+    ask_dryer(w, WHY, &x);
+    back_to(&x, 0);
+    each_station(w, WHY, &x, &x.state);
+
+    /* P10: station 1 is behind, then tied, then ahead, then behind again; and
+     * back */
+    two_loops(&p);
+    load(&x, &p);
+    set_going(&x, 1, loop_resets);
+    for (size_t i = 0; i < 8; i++) {
+        case_why(w, x.list, x.len, &x.state, 0);
+        case_why(w, x.list, x.len, &x.state, 1);
+        if (i < 4)
+            go(&x, loop_picks + 2 * i, 1);
+        else
+            back_to(&x, 7 - i);
+    }
+
+    /* all four with m = 4,096, where no step is left, and with one less; 8
+     * with one more */
+    purge_going(&x);
+    s = x.state;
+    for (uint16_t m = 4095; m <= 4097; m++) {
+        s.m = m;
+        for (uint8_t station = 0; station <= 3; station++)
+            case_why(w, x.list, x.len, &s, station);
+        s.var[0] = 1;                             /* station 1 is behind 2 */
+        case_why(w, x.list, x.len, &s, 1);
+        s.var[0] = 0;
+    }
+    /* whoever waits or has ended is not ahead, however low; nor is it behind,
+     * however high */
+    for (uint8_t station = 0; station < 2; station++) {
+        for (int i = 0; i < 2; i++) {
+            s = x.state;
+            s.pri[2] = 1;
+            s.pri[station] = (int16_t)(i == 0 ? -2 : 3);
+            case_why(w, x.list, x.len, &s, station);
+            case_why(w, x.list, x.len, &s, 2);
+        }
+    }
+}
+
+/* 7, 8 and 10 and which of them comes first. */
+static void why_refused(struct writer *w)
+{
+    static struct sequence p;
+    static struct press x;
+    static const uint8_t zeros[8];
+    static const struct change unsound[9] = {
+        { CHANGE_N, 0, 1 }, { CHANGE_N, 0, 3 }, { CHANGE_M, 0, 4097 },
+        { CHANGE_POS, 1, 5 },                     /* inside */
+        { CHANGE_POS, 0, 4 },                     /* the other's AWAIT */
+        { CHANGE_PRI, 0, 1 }, { CHANGE_PRI, 1, -2 }, { CHANGE_POS, 2, 3 },
+        { CHANGE_PRI, 7, -1 }
+    };
+    struct ind_state s;
+
+    /* 7, before 8 and 10: no list, half a record, a record cut off, a STOP
+     * with a target, an AWAIT of a variable that there is not */
+    dryer(&p);
+    load(&x, &p);
+    set_going(&x, 0, zeros);
+    s = x.state;
+    s.n = 1;
+    case_why(w, NULL, 0, &x.state, 0);
+    case_why(w, NULL, 0, &s, 255);
+    case_why(w, x.list, x.len - 8, &x.state, 1);
+    for (uint8_t station = 0; station <= 2; station++) {
+        case_why(w, x.list, x.len - 16, &x.state, station);
+        case_why(w, x.list, x.len - 16, &s, station);
+    }
+    case_why(w, x.list, x.len - 16, &s, 255);
+    for (int i = 0; i < 4; i++) {                 /* and what is 8 of itself */
+        static const uint8_t n[4] = { 0, 9, 255, 2 };
+
+        s = x.state;
+        s.n = n[i];
+        s.m = i < 3 ? 0 : 4097;
+        case_why(w, x.list, x.len - 16, &s, 1);
+        case_why(w, x.list, x.len, &s, 1);
+    }
+    x.list[IND_ITEM * 3 + 10] = 3;
+    case_why(w, x.list, x.len, &x.state, 1);
+    x.list[IND_ITEM * 3 + 10] = 0;
+    x.list[IND_ITEM * 4 + 2] = 32;
+    case_why(w, x.list, x.len, &x.state, 1);
+    x.list[IND_ITEM * 4 + 2] = 0;
+
+    /* 8, before 10: n, m, the other station's position, the station's own, a
+     * priority, entries from n on */
+    ask_changed(w, WHY, &x, unsound, 9, 0);
+    s = changed(x.state, unsound[8]);
+    case_why(w, x.list, x.len, &s, 255);
+
+    /* 10 for n from 1 to 8: the last station is there, and one more is not,
+     * the others ready or ended */
+    for (size_t n = 1; n <= 8; n++) {
+        skips(&x, n);
+        set_going(&x, 1, zeros);
+        x.state.pri[n - 1] = 1;
+        case_why(w, x.list, x.len, &x.state, (uint8_t)(n - 1));
+        case_why(w, x.list, x.len, &x.state, (uint8_t)n);
+        for (size_t j = 0; j < n; j++) {
+            x.list[IND_ITEM * (n + j)] = IND_STOP;
+            x.list[IND_ITEM * (n + j) + 10] = 0;
+        }
+        case_why(w, x.list, x.len, &x.state, (uint8_t)(n - 1));
+        case_why(w, x.list, x.len, &x.state, (uint8_t)n);
+    }
+    case_why(w, x.list, x.len, &x.state, 9);
+    case_why(w, x.list, x.len, &x.state, 16);
+    case_why(w, x.list, x.len, &x.state, 128);
+}
+
+/* Numbers with which "b equals, differs from, is below, is at least" fails. */
+static const uint32_t failing[4][4][2] = {
+    { { 4, 5 }, { 0, UINT32_MAX }, { UINT32_MAX, 0 }, { 6, 5 } },
+    { { 5, 5 }, { 0, 0 }, { UINT32_MAX, UINT32_MAX }, { 9, 9 } },
+    { { 6, 5 }, { 0, 0 }, { UINT32_MAX, 0 }, { 0x80000000, 0x7FFFFFFF } },
+    { { 4, 5 }, { 0, UINT32_MAX }, { 0, 1 }, { 0x01020304, 0x04030201 } }
+};
+
+/* A station at AWAIT b op k or, of ops 0 to 3, b op the number; why of it. */
+static void ask_await(struct writer *w, uint8_t op, uint8_t b, uint8_t k,
+                      uint32_t left, uint32_t right)
+{
+    static struct sequence p;
+    static struct press x;
+    static const uint8_t zeros[8];
+
+    p.len = 0;
+    add_bare(&p, IND_STATION);
+    add(&p, IND_AWAIT, 0, b, op, op < 4 ? right : k);
+    add(&p, IND_SET, b, k, 1, 0);
+    add_bare(&p, IND_END);
+    load(&x, &p);
+    set_going(&x, 0, zeros);
+    mark_variables(&x.state);
+    if (op >= 4)
+        x.state.var[k] = right;
+    x.state.var[b] = left;
+    case_why(w, x.list, x.len, &x.state, 0);
+}
+
+/* What a waiting station is answered with: each op, each variable, each
+ * value. */
+static void named(struct writer *w)
+{
+    static const uint8_t two[9][2] = {
+        { 2, 31 }, { 31, 2 }, { 0, 1 }, { 1, 0 }, { 15, 16 }, { 30, 29 },
+        { 0, 0 }, { 7, 7 }, { 31, 31 }
+    };
+    static struct sequence p;
+    static struct press x;
+    static const uint8_t zeros[8];
+    struct ind_state s;
+
+    /* of every two variables some; where they are the same one, ops 5 and 6
+     * fail, and 4 and 7 hold */
+    for (uint8_t op = 4; op < 8; op++) {
+        for (int i = 0; i < 9; i++) {
+            const uint32_t *pair = failing[op % 4][i % 4];
+
+            ask_await(w, op, two[i][0], two[i][1], pair[0],
+                      i < 6 ? pair[1] : pair[0]);
+        }
+    }
+    /* each op's numbers; and where it holds nothing is named */
+    for (uint8_t op = 0; op < 8; op++) {
+        static const uint32_t right[4][2] = {
+            { 5, 5 }, { 4, 5 }, { 4, 5 }, { 5, 4 }
+        };
+
+        for (int i = 0; i < 4; i++)
+            ask_await(w, op, 3, 9, failing[op % 4][i][0],
+                      failing[op % 4][i][1]);
+        ask_await(w, op, 3, 9, right[op % 4][0], right[op % 4][1]);
+    }
+    /* one variable; the number is one of the variables' or is not */
+    for (uint8_t op = 0; op < 4; op++) {
+        static const uint32_t number[5] = { 0, 1, 8, 31, 32 };
+
+        for (int i = 0; i < 5; i++)
+            ask_await(w, op, two[i][0], 9,
+                      op == 0 ? number[i] + 1 : op == 3 ? number[i] - (i > 0)
+                      : number[i], number[i]);
+    }
+
+    /* three stations at AWAITs, each with a condition of its own: the first
+     * at its second record, the next at the second of its two AWAITs, the last
+     * with the variables of both */
+    p.len = 0;
+    add_bare(&p, IND_STATION);
+    add_bare(&p, IND_SKIP);
+    add(&p, IND_AWAIT, 0, 4, 5, 4);
+    add(&p, IND_SET, 4, 4, 2, 1);
+    add_bare(&p, IND_END);
+    add_bare(&p, IND_STATION);
+    add_block(&p, IND_AWAIT, 6, 0, 6);
+    add_block(&p, IND_AWAIT, 5, 2, 4);
+    add_bare(&p, IND_STATION);
+    add_block(&p, IND_AWAIT, 5, 4, 4);
+    load(&x, &p);
+    set_going(&x, 0, zeros);
+    mark_variables(&x.state);
+    each_station(w, WHY, &x, &x.state);
+    s = x.state;
+    s.pos[0] += 1;
+    s.pos[1] += 2;
+    each_station(w, WHY, &x, &s);
+    s.pos[0] += 2;                                /* ended */
+    s.var[5] = s.var[4];                          /* station 2 may be picked */
+    each_station(w, WHY, &x, &s);
+
+    /* IF and WHILE never wait and name nothing: here they fail, and the
+     * station is tied, then behind */
+    for (int i = 0; i < 4; i++) {
+        p.len = 0;
+        add_bare(&p, IND_STATION);
+        add_bare(&p, IND_SKIP);
+        add_bare(&p, IND_STATION);
+        add_block(&p, i % 2 == 0 ? IND_IF : IND_WHILE, 3, i < 2 ? 4 : 0, 9);
+        load(&x, &p);
+        set_going(&x, 1, zeros);
+        mark_variables(&x.state);
+        case_why(w, x.list, x.len, &x.state, 1);
+        x.state.pri[1] = 1;
+        case_why(w, x.list, x.len, &x.state, 1);
+    }
+}
+
+/* n stations, each at an AWAIT of its own variable, which holds with 0, going
+ * with B. */
+static void awaits(struct press *x, size_t n, uint8_t b)
+{
+    static struct sequence p;
+    static const uint8_t zeros[8];
+
+    p.len = 0;
+    for (size_t j = 0; j < n; j++) {
+        add_bare(&p, IND_STATION);
+        add_block(&p, IND_AWAIT, (uint8_t)(8 + j), 0, 0);
+    }
+    load(x, &p);
+    set_going(x, b, zeros);
+}
+
+/* Who is ahead: ties, priorities below 0, up to 255, and stations that wait or
+ * have ended among the lowest. */
+static void behind(struct writer *w)
+{
+    static const int16_t some[6][3] = {
+        { 0, 0, 0 }, { 1, 0, 0 }, { 0, 1, 2 }, { 2, 1, 0 }, { 0, -1, -2 },
+        { -1, -1, 0 }
+    };
+    static struct press x;
+    static const uint8_t zeros[8];
+    struct ind_state s;
+
+    /* three stations, each ready, waiting or ended */
+    awaits(&x, 3, 2);
+    for (unsigned i = 0; i < 27; i++) {
+        for (unsigned j = 0; j < 6; j++) {
+            uint8_t station = (uint8_t)((i + j) % 3);
+            unsigned rest = i;
+
+            s = x.state;
+            for (uint8_t k = 0; k < 3; k++, rest /= 3) {
+                if (rest % 3 == 1)
+                    s.var[8 + k] = 70u + k;
+                if (rest % 3 == 2)
+                    s.pos[k] += 2;
+                s.pri[k] = some[j][k];
+            }
+            /* the last that is behind, or else any */
+            for (uint8_t k = 0; k < 3; k++)
+                if (ind_why(x.list, x.len, s, k).number == IND_TURN)
+                    station = k;
+            if (j == 0 || ind_lights(x.list, x.len, s).ready != 0)
+                case_why(w, x.list, x.len, &s, station);
+        }
+    }
+
+    /* eight stations, all ready: each two of them tied and the others behind;
+     * each alone; all at the top */
+    skips(&x, 8);
+    set_going(&x, 255, zeros);
+    for (uint8_t i = 0; i < 8; i++) {
+        uint8_t other = (uint8_t)((i * 5 + 3) % 8);
+
+        s = x.state;
+        for (int j = 0; j < 8; j++)
+            s.pri[j] = 255;
+        case_why(w, x.list, x.len, &s, i);
+        s.pri[i] = 254;
+        case_why(w, x.list, x.len, &s, (uint8_t)((i + 1) % 8));
+        s.pri[other] = 254;
+        case_why(w, x.list, x.len, &s, (uint8_t)((i + 1) % 8));
+        case_why(w, x.list, x.len, &s, other);
+        /* as low as can be, up and down: the last and the first are ahead */
+        for (int j = 0; j < 8; j++)
+            s.pri[j] = (int16_t)(i % 2 == 0 ? -j : j - 7);
+        case_why(w, x.list, x.len, &s, i);
+        /* around 0, with a tie; from 0 to 252 */
+        for (int j = 0; j < 8; j++)
+            s.pri[j] = (int16_t)((i + j) % 4 - 1);
+        case_why(w, x.list, x.len, &s, i);
+        case_why(w, x.list, x.len, &s, (uint8_t)((i + 2) % 8));
+        for (int j = 0; j < 8; j++)
+            s.pri[j] = (int16_t)(36 * ((i + j) % 8));
+        case_why(w, x.list, x.len, &s, (uint8_t)(i * 3 % 8));
+    }
+
+    /* eight stations of the same and of rising priority, of which some wait
+     * and some have ended */
+    awaits(&x, 8, 1);
+    for (uint8_t i = 0; i < 8; i++) {
+        s = x.state;
+        for (uint8_t j = 0; j < 8; j++) {
+            if (j < i && j % 2 == 0)
+                s.var[8 + j] = UINT32_MAX - j;
+            else if (j < i)
+                s.pos[j] += 2;
+            s.pri[j] = -1;
+        }
+        s.pri[7] = 0;
+        case_why(w, x.list, x.len, &s, 7);        /* behind i, if not alone */
+        for (uint8_t j = 0; j < 8; j++)
+            s.pri[j] = (int16_t)(j - 7);
+        case_why(w, x.list, x.len, &s, 7);
+        case_why(w, x.list, x.len, &s, i);
+        case_why(w, x.list, x.len, &s, (uint8_t)(i / 2));
+    }
+}
+
+/* Lists that someone else wrote, the station at each place; 8 where it cannot
+ * stand. */
+static void foreign_why(struct writer *w)
+{
+    static struct press x;
+    static const uint8_t zeros[8];
+    struct ind_state s;
+
+    load_list(&x, three_list, sizeof three_list, 3);
+    set_going(&x, 1, zeros);
+    for (uint8_t station = 0; station < 3; station++) {
+        for (uint16_t place = 0; place <= x.len / IND_ITEM; place++) {
+            s = x.state;
+            s.var[4] = 8 - place % 2u;
+            s.var[9] = 8;
+            s.pri[station] = (int16_t)(station + place % 3 - 2);
+            s.pos[station] = place;
+            case_why(w, x.list, x.len, &s, station);
+        }
+    }
+
+    for (size_t i = 0; i < HANDS; i++) {
+        load_hand(&x, i);
+        set_going(&x, 1, zeros);
+        for (size_t station = 0; station < x.n; station++) {
+            for (uint16_t place = 0; place < x.len / IND_ITEM; place++) {
+                s = x.state;
+                s.var[0] = 1;
+                s.var[3] = 9;
+                s.pri[station] = 1;
+                s.pos[station] = place;
+                if (ind_lights(x.list, x.len, s).number == IND_FINE)
+                    case_why(w, x.list, x.len, &s, (uint8_t)station);
+            }
+        }
+    }
+
+    load_list(&x, waiting_list, sizeof waiting_list, 1);
+    set_going(&x, 0, zeros);
+    mark_variables(&x.state);
+    for (uint16_t place = 1; place <= 4; place = (uint16_t)(place + 3)) {
+        x.state.pos[0] = place;
+        case_why(w, x.list, x.len, &x.state, 0);
+        x.state.var[4] = x.state.var[9];
+        case_why(w, x.list, x.len, &x.state, 0);
+    }
+
+    /* place 1,030, which is the highest */
+    late_await(&x);
+    set_going(&x, 0, zeros);
+    case_why(w, x.list, x.len, &x.state, 0);
+}
+
+/* ------------------------------------------------------------------ */
 /* Random cases                                                       */
 /* ------------------------------------------------------------------ */
 
@@ -3969,21 +4403,72 @@ static int has_await(const struct press *x)
     return 0;
 }
 
-/* A station, mostly one of the list's, and often one that waits. */
-static uint8_t random_station(struct rng *g, const struct press *x,
-                              const struct ind_state *s)
+/* A list to ask of, of at most `most` bytes, mostly with an AWAIT, and a state;
+ * for why, mostly with two stations and a sound state. */
+static struct ind_state press_to_ask(struct rng *g, enum call call,
+                                     struct press *x, size_t most)
 {
-    uint8_t waiting = ind_lights(x->list, x->len, *s).waiting;
-    uint8_t station = (uint8_t)below(g, (uint32_t)x->n);
+    struct ind_state s;
 
-    if (chance(g, 5))
+    do
+        random_press(g, x);
+    while (x->len > most || (call == WHY && x->n < 2 && chance(g, 80))
+           || (!has_await(x) && chance(g, call == WHY ? 70 : 90)));
+    do
+        s = random_state(g, x);
+    while (call == WHY && ind_lights(x->list, x->len, s).number != IND_FINE
+           && chance(g, 85));
+    return s;
+}
+
+/* A station to ask for: mostly one of the list's, and often one that waits or,
+ * for why, is behind. */
+static uint8_t station_to_ask(struct rng *g, enum call call,
+                              const struct press *x, const struct ind_state *s)
+{
+    struct ind_lights_answer l = ind_lights(x->list, x->len, *s);
+    uint8_t station = (uint8_t)below(g, (uint32_t)x->n);
+    uint32_t strange = call == WHY ? 3 : 5;
+    uint8_t from = l.waiting;
+
+    if (chance(g, strange))
         return (uint8_t)draw(g);
-    if (chance(g, 5))
+    if (chance(g, strange))
         return (uint8_t)x->n;
-    if (waiting != 0 && chance(g, 70))
-        while ((waiting >> station & 1) == 0)
+    if (call == WHY && chance(g, 50))
+        from = l.ready & (uint8_t)~l.in_turn;
+    if (from != 0 && chance(g, call == WHY ? 80 : 70))
+        while ((from >> station & 1) == 0)
             station = (uint8_t)((station + 1) % IND_STATIONS);
     return station;
+}
+
+/* Starts the press with B and takes up to 19 steps, mostly good ones. */
+static void random_run(struct rng *g, struct press *x, uint8_t b)
+{
+    uint8_t resets[IND_STATIONS], picks[40];
+    size_t count;
+
+    for (size_t i = 0; i < IND_STATIONS; i++)
+        resets[i] = (uint8_t)below(g, b + 1u);
+    set_going(x, b, resets);
+    count = below(g, 20);
+    count = random_picks(g, x, picks, count, 98);
+    go(x, picks, count);
+}
+
+/* A state of any bytes, at times with the press's n. */
+static struct ind_state any_state(struct rng *g, const struct press *x)
+{
+    uint8_t bytes[STATE_BYTES];
+    struct ind_state s;
+
+    for (size_t i = 0; i < sizeof bytes; i++)
+        bytes[i] = (uint8_t)(chance(g, 50) ? 0 : draw(g));
+    s = unpack_state(bytes);
+    if (chance(g, 50))
+        s.n = (uint8_t)x->n;
+    return s;
 }
 
 /* One round of readiness: in a run, in a state that no call made, and with a
@@ -3994,34 +4479,18 @@ static void random_readiness(struct writer *w, struct rng *g, size_t most)
     static struct press x;
 
     for (int what = 0; what < 3; what++) {
-        uint8_t bytes[STATE_BYTES], resets[IND_STATIONS], picks[40];
-        struct ind_state s;
-        uint8_t station;
-        size_t count;
+        struct ind_state s = press_to_ask(g, READINESS, &x, most);
 
-        do
-            random_press(g, &x);
-        while (x.len > most || (!has_await(&x) && chance(g, 90)));
-        s = random_state(g, &x);
         if (what == 0) {
-            for (size_t i = 0; i < IND_STATIONS; i++)
-                resets[i] = (uint8_t)below(g, s.b + 1u);
-            set_going(&x, s.b, resets);
-            count = below(g, 20);
-            count = random_picks(g, &x, picks, count, 98);
-            go(&x, picks, count);
+            random_run(g, &x, s.b);
             s = x.state;
         } else if (what == 2 && chance(g, 80)) {
             damage(g, x.list, &x.len, IND_ITEM, sizeof x.list);
         } else if (what == 2) {
-            for (size_t i = 0; i < sizeof bytes; i++)
-                bytes[i] = (uint8_t)(chance(g, 50) ? 0 : draw(g));
-            s = unpack_state(bytes);
-            if (chance(g, 50))
-                s.n = (uint8_t)x.n;
+            s = any_state(g, &x);
         }
-        station = random_station(g, &x, &s);
-        case_readiness(w, x.list, x.len, &s, station);
+        case_readiness(w, x.list, x.len, &s,
+                       station_to_ask(g, READINESS, &x, &s));
     }
 }
 
@@ -4045,20 +4514,13 @@ static void random_lights(struct writer *w, struct rng *g, size_t most)
         int again;
 
         do {
-            uint8_t resets[IND_STATIONS], picks[40];
             struct ind_state s;
-            size_t count;
 
             do
                 random_press(g, &x);
             while (x.len > most || !has_await(&x));
             s = random_state(g, &x);
-            for (size_t i = 0; i < IND_STATIONS; i++)
-                resets[i] = (uint8_t)below(g, s.b + 1u);
-            set_going(&x, s.b, resets);
-            count = below(g, 20);
-            count = random_picks(g, &x, picks, count, 98);
-            go(&x, picks, count);
+            random_run(g, &x, s.b);
             if (what == 2)
                 x.state = s;
             again = !at_await(&x, &x.state) && chance(g, 95);
@@ -4322,6 +4784,34 @@ static void random_traces(struct writer *w, struct rng *g, struct press *x)
     case_trace(w, &p, start, slen, picks, count);
 }
 
+/* One round of why: in a run, behind undos, in a state that no call made, and
+ * with a fault in the list or a state of any bytes; of lists of at most `most`
+ * bytes. */
+static void random_why(struct writer *w, struct rng *g, size_t most)
+{
+    static struct press x;
+
+    for (int what = 0; what < 4; what++) {
+        struct ind_state s = press_to_ask(g, WHY, &x, most);
+
+        if (what <= 1) {
+            random_run(g, &x, s.b);
+            if (what == 1)
+                back_to(&x, x.state.m - below(g, x.state.m + 1u));
+            s = x.state;
+        } else if (what == 2) {
+            for (int v = 0; v < IND_VARS; v++)
+                if (s.var[v] == 0 && chance(g, 50))
+                    s.var[v] = draw(g);
+        } else if (chance(g, 70)) {
+            damage(g, x.list, &x.len, IND_ITEM, sizeof x.list);
+        } else {
+            s = any_state(g, &x);
+        }
+        case_why(w, x.list, x.len, &s, station_to_ask(g, WHY, &x, &s));
+    }
+}
+
 /* One round of random cases of each sort. */
 static void random_round(struct writer *w, struct rng *g)
 {
@@ -4359,7 +4849,7 @@ static int report(const struct writer *w)
     for (int i = 0; i < NUMBERS; i++)
         fprintf(stderr, "%8d", i);
     fputc('\n', stderr);
-    for (int call = CHECK; call <= READINESS; call++) {
+    for (int call = CHECK; call <= WHY; call++) {
         fprintf(stderr, "%-9s", call_name[call]);
         for (int i = 0; i < NUMBERS; i++) {
             unsigned long count = w->table[call][i];
@@ -4405,11 +4895,19 @@ static struct rng kept_rng(uint64_t seed)
     return g;
 }
 
+/* The generator of the cases of why, likewise. */
+static struct rng why_rng(uint64_t seed)
+{
+    struct rng g = { seed ^ UINT64_C(0x5EED0F0010001200) };
+
+    return g;
+}
+
 static int write_stream(uint64_t seed)
 {
     static struct writer w;
     struct rng g = { seed }, h = readiness_rng(seed), l = lights_rng(seed);
-    struct rng k = kept_rng(seed);
+    struct rng k = kept_rng(seed), y = why_rng(seed);
 
     w.out = stdout;
     bench_check(&w);
@@ -4446,6 +4944,13 @@ static int write_stream(uint64_t seed)
     kept_traces(&w);
     for (int i = 0; i < KEPT_ROUNDS; i++)
         random_kept(&w, &k, KEPT_LIST, 150);
+    reasons(&w);
+    why_refused(&w);
+    named(&w);
+    behind(&w);
+    foreign_why(&w);
+    for (int i = 0; i < WHY_ROUNDS; i++)
+        random_why(&w, &y, WHY_LIST);
     if (fflush(stdout) != 0)
         die("cannot write");
     return report(&w) != 0;
@@ -4455,7 +4960,7 @@ static int write_random(uint64_t seed, unsigned long rounds)
 {
     static struct writer w;
     struct rng g = { seed }, h = readiness_rng(seed), l = lights_rng(seed);
-    struct rng k = kept_rng(seed);
+    struct rng k = kept_rng(seed), y = why_rng(seed);
 
     w.out = stdout;
     while (rounds-- > 0) {
@@ -4463,6 +4968,7 @@ static int write_random(uint64_t seed, unsigned long rounds)
         random_readiness(&w, &h, SIZE_MAX);
         random_lights(&w, &l, SIZE_MAX);
         random_kept(&w, &k, SIZE_MAX, chance(&k, 4) ? IND_MAX_STEPS : 400);
+        random_why(&w, &y, SIZE_MAX);
     }
     if (fflush(stdout) != 0)
         die("cannot write");

@@ -29,12 +29,12 @@ struct call {
 static struct field ours[FIELDS], theirs[FIELDS];
 
 /* The calls are numbered from 1; the trace is no call of the library. */
-enum { TRACE = 8, CALLS = 9 };
+enum { TRACE = 8, CALLS = 10 };
 
-static const int field_counts[] = {0, 1, 2, 5, 5, 6, 4, 2, 3, 3};
+static const int field_counts[] = {0, 1, 2, 5, 5, 6, 4, 2, 3, 3, 3};
 
 /* Which field of a call is its kept buffer; 0 where it is lent none. */
-static const int kept_fields[] = {0, 0, 0, 4, 3, 3, 3, 0, 0, 0};
+static const int kept_fields[] = {0, 0, 0, 4, 3, 3, 3, 0, 0, 0, 0};
 
 static uint32_t word(const uint8_t *p)
 {
@@ -164,6 +164,12 @@ static int agree(const struct call *c)
         same = r.number == t.number && r.place == t.place;
         break;
     }
+    case 10: {
+        press_reason r = press_why(our_state(a[1].bytes), a[0].bytes, a[0].len, a[2].bytes[0]);
+        struct ind_why_answer t = ind_why(b[0].bytes, b[0].len, their_state(b[1].bytes), b[2].bytes[0]);
+        same = same_reason(&r, &t);
+        break;
+    }
     default:
         break;
     }
@@ -176,7 +182,7 @@ static int agree(const struct call *c)
 static int fixed(const struct call *c, int i)
 {
     return (c->number >= 3 && i == 1) || (c->number == 4 && i == 4) || (c->number == 5 && i == 5)
-        || (c->number == 9 && i == 2);
+        || (c->number >= 9 && i == 2);
 }
 
 /* Cuts bytes off the ends of the fields and sets bytes to zero while the two still differ. */

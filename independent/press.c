@@ -1111,6 +1111,19 @@ struct ind_state_answer ind_undo(const uint8_t *bytes, size_t len,
     return answer;
 }
 
+/* Decodes the list; the refusal that a question about the station gets (7, 8,
+ * 10, in this order), or 0. */
+static uint8_t question_refused(struct list *list, const uint8_t *bytes,
+                                size_t len, const struct ind_state *state,
+                                uint8_t station)
+{
+    if (!sound_list(list, bytes, len))
+        return IND_LIST;
+    if (!sound_state(list, state))
+        return IND_STATE;
+    return station < list->n ? IND_FINE : IND_COMPONENT;
+}
+
 /* Answers whether the station is ready, ended, or waiting and where.  Refused
  * (7, 8, 10, in this order), that number and place 0. */
 struct ind_readiness_answer ind_readiness(const uint8_t *bytes, size_t len,
@@ -1120,14 +1133,58 @@ struct ind_readiness_answer ind_readiness(const uint8_t *bytes, size_t len,
     struct ind_readiness_answer answer = { IND_FINE, 0 };
     struct list list;
 
-    if (!sound_list(&list, bytes, len))
-        answer.number = IND_LIST;
-    else if (!sound_state(&list, &state))
-        answer.number = IND_STATE;
-    else if (station >= list.n)
-        answer.number = IND_COMPONENT;
-    else
+    answer.number = question_refused(&list, bytes, len, &state, station);
+    if (answer.number == IND_FINE)
         answer = readiness(&list, &state, station);
+    return answer;
+}
+
+/* Puts the variable and its value behind those that the answer names. */
+static void add_named(struct ind_why_answer *answer,
+                      const struct ind_state *state, uint32_t variable)
+{
+    answer->variables[answer->count] = (uint8_t)variable;
+    answer->values[answer->count] = state->var[variable];
+    answer->count++;
+}
+
+/* Station i's "one reason: ended; waiting, with the record, the variable or
+ * variables and their values; behind, with the lowest-numbered ready station
+ * of lowest priority; or may be picked".  Ops 4 to 7 name two variables, b and
+ * k in this order, also where they are the same one. */
+static struct ind_why_answer reason(const struct list *list,
+                                    const struct ind_state *state, size_t i)
+{
+    struct ind_why_answer answer = { 0 };
+    struct ind_readiness_answer told = readiness(list, state, i);
+    const uint8_t *r = next_step(list, state, i);
+    struct turn turn = judge(list, state);
+
+    answer.number = told.number;          /* 16, 11 or 0 */
+    answer.place = told.place;
+    if (told.number == IND_NOT_READY) {
+        add_named(&answer, state, b_of(r));
+        if (op_of(r) >= 4)                /* "against variable k" */
+            add_named(&answer, state, k_of(r));
+    } else if (told.number == IND_FINE && (turn.in_turn >> i & 1) == 0) {
+        answer.number = IND_TURN;
+        while ((turn.in_turn >> answer.ahead & 1) == 0)
+            answer.ahead++;
+    }
+    return answer;
+}
+
+/* Answers why the station was not picked, or that it may be.  m = 4,096 is no
+ * refusal.  Refused (7, 8, 10, in this order), that number and zeros. */
+struct ind_why_answer ind_why(const uint8_t *bytes, size_t len,
+                              struct ind_state state, uint8_t station)
+{
+    struct ind_why_answer answer = { 0 };
+    struct list list;
+
+    answer.number = question_refused(&list, bytes, len, &state, station);
+    if (answer.number == IND_FINE)
+        answer = reason(&list, &state, station);
     return answer;
 }
 

@@ -109,6 +109,19 @@ struct ind_readiness_answer {
     uint16_t place;
 };
 
+/* May be picked: 0.  Ended: 16.  Waiting: 11, the record number of the list
+ * where the station waits, and the variables that its condition names, `count`
+ * of them, with their values.  Behind: 12 and the station that is ahead.  Or a
+ * refusal.  All that does not belong to the number is 0. */
+struct ind_why_answer {
+    uint8_t number;
+    uint8_t ahead;
+    uint16_t place;
+    uint8_t count;
+    uint8_t variables[2];
+    uint32_t values[2];
+};
+
 struct ind_lights_answer {
     uint8_t number;
     uint8_t ready;
@@ -153,6 +166,9 @@ struct ind_state_answer ind_undo(const uint8_t *list, size_t len,
 struct ind_readiness_answer ind_readiness(const uint8_t *list, size_t len,
                                           struct ind_state state,
                                           uint8_t station);
+
+struct ind_why_answer ind_why(const uint8_t *list, size_t len,
+                              struct ind_state state, uint8_t station);
 
 struct ind_lights_answer ind_lights(const uint8_t *list, size_t len,
                                     struct ind_state state);

@@ -8,6 +8,7 @@
 
 #include "press.h"
 #include "random.h"
+#include "samples.h"
 
 static unsigned long checks, failures;
 
@@ -430,6 +431,21 @@ static int traced(const struct sequence *p, const uint8_t *start, size_t slen,
     return len == strlen(want) && memcmp(out, want, len) == 0;
 }
 
+/* Builds the longest file, SKIPs and at its end an AWAIT, which is record 1,021
+ * of the list.  Answers the list's length. */
+static size_t late_await(uint8_t *list, size_t room, uint8_t b, uint8_t op,
+                         uint32_t k)
+{
+    static struct sequence p;
+
+    p.len = 0;
+    add_bare(&p, IND_STATION);
+    while (p.len < 8 * 1021)
+        add_bare(&p, IND_SKIP);
+    add_block(&p, IND_AWAIT, b, op, k);
+    return ind_build(p.bytes, p.len, list, room).count * 16u;
+}
+
 /* One station that ends, one that waits for ever, one that loops: records
  * 3 and 4, 5 to 7, 8 to 10 of the list. */
 static void purge(struct sequence *p)
@@ -659,13 +675,7 @@ static void test_readiness(void)
             p.len = 0;
             add(&p, IND_SET, 7, 0, 0, 5);
             add_bare(&p, IND_STATION);
-            add(&p, kind[i], 0, 2, op, op < 4 ? 5 : 7);
-            add_bare(&p, IND_SKIP);
-            if (i == 1) {
-                add_bare(&p, IND_ELSE);
-                add_bare(&p, IND_SKIP);
-            }
-            add_bare(&p, i == 0 ? IND_END : i == 1 ? IND_FI : IND_OD);
+            add_block(&p, kind[i], 2, op, op < 4 ? 5 : 7);
             len = ind_build(p.bytes, p.len, list, sizeof list).count * 16u;
             s = ind_start(list, len, 0, resets, 1, log, sizeof log, kept,
                           sizeof kept);
@@ -701,14 +711,7 @@ static void test_readiness(void)
     CHECK(told(list, len, s.state, 255, IND_COMPONENT, 0));
 
     /* a place of two bytes */
-    p.len = 0;
-    add_bare(&p, IND_STATION);
-    while (p.len < 8 * 1021)
-        add_bare(&p, IND_SKIP);
-    add(&p, IND_AWAIT, 0, 0, 1, 0);
-    add_bare(&p, IND_SKIP);
-    add_bare(&p, IND_END);
-    len = ind_build(p.bytes, p.len, longest, sizeof longest).count * 16u;
+    len = late_await(longest, sizeof longest, 0, 1, 0);
     s = ind_start(longest, len, 0, resets, 1, log, sizeof log, kept,
                   sizeof kept);
     CHECK(told(longest, len, s.state, 0, IND_FINE, 0));
@@ -1378,6 +1381,32 @@ static void find_touched(struct touched *t, const uint8_t *list, size_t len)
 /* How often a station was met waiting and ready at an AWAIT of each op. */
 static unsigned long met[2][8];
 
+/* "b equals, differs from, is below, is at least": whether the op fails. */
+static int fails_with(uint8_t op, uint32_t left, uint32_t right)
+{
+    return op % 4 == 0 ? left != right
+         : op % 4 == 1 ? left == right
+         : op % 4 == 2 ? left >= right : left < right;
+}
+
+/* What readiness has to tell of the station, by its record in the list. */
+static uint8_t by_record(const uint8_t *list, const struct ind_state *state,
+                         size_t j)
+{
+    const uint8_t *r = list + 16 * (size_t)state->pos[j];
+    uint32_t left = state->var[r[2] % 32], k = 0;
+
+    for (int i = 3; i >= 0; i--)
+        k = k << 8 | r[4 + i];
+    if (r[3] > 3)
+        k = state->var[k % 32];
+    if (r[0] == IND_STOP)
+        return IND_ENDED;
+    if (r[0] == IND_AWAIT && fails_with(r[3], left, k))
+        return IND_NOT_READY;
+    return IND_FINE;
+}
+
 /* Readiness of a station against its record in the list, against its lights
  * and against a step that picks it; its lights against what is touched. */
 static void check_station(const uint8_t *list, size_t len,
@@ -1386,20 +1415,9 @@ static void check_station(const uint8_t *list, size_t len,
                           const struct ind_lights_answer *l, size_t j)
 {
     const uint8_t *r = list + 16 * (size_t)state->pos[j];
-    uint32_t left = state->var[r[2] % 32], k = 0;
-    uint8_t number = IND_FINE, log[200], other[IND_KEPT_BYTES];
+    uint8_t number = by_record(list, state, j);
+    uint8_t log[200], other[IND_KEPT_BYTES];
     struct ind_state_answer s;
-
-    for (int i = 3; i >= 0; i--)
-        k = k << 8 | r[4 + i];
-    if (r[3] > 3)
-        k = state->var[k % 32];
-    if (r[0] == IND_STOP)
-        number = IND_ENDED;
-    if (r[0] == IND_AWAIT
-        && ((r[3] % 4 == 0 && left != k) || (r[3] % 4 == 1 && left == k)
-            || (r[3] % 4 == 2 && left >= k) || (r[3] % 4 == 3 && left < k)))
-        number = IND_NOT_READY;
 
     CHECK(told(list, len, *state, (uint8_t)j, number,
                number == IND_NOT_READY ? state->pos[j] : 0));
@@ -1593,35 +1611,71 @@ static void scramble(struct rng *g, uint8_t *list, size_t len)
     }
 }
 
+/* A random list of about `size` bytes of sequence, built and mostly scrambled,
+ * started with B and random resets.  Answers its length. */
+static size_t start_random(struct rng *g, size_t size, uint8_t b,
+                           uint8_t list[IND_ITEM * IND_MAX_ITEMS],
+                           struct ind_state_answer *s, uint8_t *log,
+                           size_t loglen)
+{
+    static struct sequence p;
+    uint8_t resets[8];
+    size_t len, n = 0;
+
+    random_sequence(g, &p, 8, size);
+    len = ind_build(p.bytes, p.len, list,
+                    IND_ITEM * IND_MAX_ITEMS).count * 16u;
+    while (list[16 * n] == IND_INIT)
+        n++;
+    if (chance(g, 60))
+        scramble(g, list, len);
+    for (size_t i = 0; i < 8; i++)
+        resets[i] = (uint8_t)below(g, b + 1u);
+    *s = ind_start(list, len, b, resets, n, log, loglen, kept, sizeof kept);
+    CHECK(s->number == IND_FINE);
+    return len;
+}
+
+/* An undo, at times or where nobody is in turn, or else a step of the first
+ * station in turn from station i on. */
+static struct ind_state_answer step_or_undo(struct rng *g, const uint8_t *list,
+                                            size_t len, struct ind_state state,
+                                            uint8_t *log, size_t loglen,
+                                            size_t i)
+{
+    struct ind_state_answer s = { IND_FINE, state };
+    uint8_t in_turn = ind_lights(list, len, state).in_turn;
+
+    if (state.m > 0 && (in_turn == 0 || chance(g, 30))) {
+        s = ind_undo(list, len, state, log, loglen, kept, sizeof kept);
+    } else if (in_turn != 0) {
+        while ((in_turn >> i & 1) == 0)
+            i = (i + 1) % 8;
+        s = ind_step(list, len, state, log, loglen, kept, sizeof kept,
+                     (uint8_t)i, (uint8_t)below(g, state.b + 1u));
+    }
+    CHECK(s.number == IND_FINE);
+    return s;
+}
+
 /* Random lists, the built and the scrambled: steps, undos and changes of
  * variables that no call makes, and after each the lights of each station. */
 static void test_random_lights(struct rng *g, int rounds)
 {
-    static struct sequence p;
     static struct touched touched;
     static uint8_t list[IND_ITEM * IND_MAX_ITEMS], log[400];
 
     memset(met, 0, sizeof met);
     for (int round = 0; round < rounds; round++) {
-        uint8_t resets[8];
         uint8_t b = (uint8_t)below(g, 3);
+        size_t size = 80 + below(g, 400);
         struct ind_state_answer s;
-        size_t len, n = 0;
+        size_t len = start_random(g, size, b, list, &s, log, sizeof log);
+        size_t n = s.state.n;
 
-        random_sequence(g, &p, 8, 80 + below(g, 400));
-        len = ind_build(p.bytes, p.len, list, sizeof list).count * 16u;
-        while (list[16 * n] == IND_INIT)
-            n++;
-        if (chance(g, 60))
-            scramble(g, list, len);
         find_touched(&touched, list, len);
-        for (size_t i = 0; i < 8; i++)
-            resets[i] = (uint8_t)below(g, b + 1u);
-        s = ind_start(list, len, b, resets, n, log, sizeof log, kept,
-                      sizeof kept);
-        CHECK(s.number == IND_FINE);
         for (int turn = 0; turn < 60; turn++) {
-            struct ind_state changed = s.state;
+            struct ind_state other = s.state;
             struct ind_lights_answer l = ind_lights(list, len, s.state);
             size_t i = below(g, 8);
 
@@ -1630,31 +1684,19 @@ static void test_random_lights(struct rng *g, int rounds)
 
             /* variables and positions as no call left them */
             for (uint8_t v = 0; v < 3; v++)
-                changed.var[v] = random_constant(g);
+                other.var[v] = random_constant(g);
             for (size_t j = 0; j < n; j++) {
                 size_t to = below(g, (uint32_t)(len / 16));
 
                 if (list[16 * to] != IND_INIT && list[16 * to + 8] == j
                     && list[16 * to + 9] == 0)
-                    changed.pos[j] = (uint16_t)to;
+                    other.pos[j] = (uint16_t)to;
             }
-            l = ind_lights(list, len, changed);
+            l = ind_lights(list, len, other);
             for (size_t j = 0; j < n; j++)
-                check_station(list, len, &touched, &changed, &l, j);
+                check_station(list, len, &touched, &other, &l, j);
 
-            /* a step or an undo */
-            l = ind_lights(list, len, s.state);
-            if (s.state.m > 0 && (l.in_turn == 0 || chance(g, 30))) {
-                s = ind_undo(list, len, s.state, log, sizeof log, kept,
-                             sizeof kept);
-            } else if (l.in_turn != 0) {
-                while ((l.in_turn >> i & 1) == 0)
-                    i = (i + 1) % 8;
-                s = ind_step(list, len, s.state, log, sizeof log, kept,
-                             sizeof kept, (uint8_t)i,
-                             (uint8_t)below(g, b + 1u));
-            }
-            CHECK(s.number == IND_FINE);
+            s = step_or_undo(g, list, len, s.state, log, sizeof log, i);
         }
     }
     for (int op = 0; op < 8; op++)
@@ -1684,6 +1726,621 @@ static void test_loop_ends_branch(void)
     CHECK(list[32 + 10] == 3 && list[32 + 12] == 5);
     CHECK(list[48 + 10] == 2 && list[48 + 12] == 0);
     CHECK(list[64 + 10] == 5 && list[64 + 12] == 0);
+}
+
+/* ------------------------------------------------------------------ */
+/* Why a station was not picked                                       */
+/* ------------------------------------------------------------------ */
+
+/* The answers: a number alone, behind, waiting for a variable, and for another
+ * beside it. */
+static struct ind_why_answer only(uint8_t number)
+{
+    struct ind_why_answer a = { 0 };
+
+    a.number = number;
+    return a;
+}
+
+static struct ind_why_answer behind(uint8_t ahead)
+{
+    struct ind_why_answer a = only(IND_TURN);
+
+    a.ahead = ahead;
+    return a;
+}
+
+static struct ind_why_answer waits_for(uint16_t place, uint8_t variable,
+                                       uint32_t value)
+{
+    struct ind_why_answer a = only(IND_NOT_READY);
+
+    a.place = place;
+    a.count = 1;
+    a.variables[0] = variable;
+    a.values[0] = value;
+    return a;
+}
+
+static struct ind_why_answer and_for(struct ind_why_answer a, uint8_t variable,
+                                     uint32_t value)
+{
+    a.count = 2;
+    a.variables[1] = variable;
+    a.values[1] = value;
+    return a;
+}
+
+static int same_reason(const struct ind_why_answer *x,
+                       const struct ind_why_answer *y)
+{
+    return x->number == y->number && x->place == y->place
+        && x->ahead == y->ahead && x->count == y->count
+        && memcmp(x->variables, y->variables, sizeof x->variables) == 0
+        && memcmp(x->values, y->values, sizeof x->values) == 0;
+}
+
+/* Whether why gives this answer for the station. */
+static int because(const uint8_t *list, size_t len, struct ind_state state,
+                   uint8_t station, struct ind_why_answer want)
+{
+    struct ind_why_answer a = ind_why(list, len, state, station);
+
+    return same_reason(&a, &want);
+}
+
+/* The reason by its definition, on a sound list and state: each station is
+ * held against each other. */
+static struct ind_why_answer defined_why(const uint8_t *list,
+                                         const struct ind_state *state,
+                                         uint8_t station)
+{
+    const uint8_t *r = list + 16 * (size_t)state->pos[station];
+    uint8_t number = by_record(list, state, station);
+
+    if (number == IND_NOT_READY) {
+        struct ind_why_answer a = waits_for(state->pos[station], r[2],
+                                            state->var[r[2]]);
+
+        return r[3] < 4 ? a : and_for(a, r[4], state->var[r[4]]);
+    }
+    for (uint8_t i = 0; i < state->n && number == IND_FINE; i++) {
+        int first = by_record(list, state, i) == IND_FINE
+                 && state->pri[i] < state->pri[station];
+
+        for (uint8_t j = 0; j < state->n && first; j++)
+            if (by_record(list, state, j) == IND_FINE
+                && (state->pri[j] < state->pri[i]
+                    || (state->pri[j] == state->pri[i] && j < i)))
+                first = 0;
+        if (first)
+            return behind(i);
+    }
+    return only(number);
+}
+
+/* How often each number was answered. */
+static unsigned long answered[17];
+
+/* Why of each station of a sound list, and of station n, against its
+ * definition, against the lights' masks and, with room and m below 4,096,
+ * against steps: "may be picked" just where every reset up to B is taken. */
+static void check_why(const uint8_t *list, size_t len,
+                      const struct ind_state *state)
+{
+    static uint8_t log[2 * (IND_STATIONS + IND_MAX_STEPS)];
+    static uint8_t other[IND_KEPT_BYTES];
+    struct ind_lights_answer l = ind_lights(list, len, *state);
+
+    for (uint8_t j = 0; j <= state->n; j++) {
+        struct ind_why_answer a = ind_why(list, len, *state, j), want;
+        unsigned bit = 1u << j, reset;
+
+        answered[a.number]++;
+        if (l.number != IND_FINE)
+            want = only(IND_STATE);
+        else if (j == state->n)
+            want = only(IND_COMPONENT);
+        else
+            want = defined_why(list, state, j);
+        CHECK(same_reason(&a, &want));
+        if (l.number != IND_FINE)
+            continue;
+
+        CHECK((a.number == IND_ENDED) == ((l.ended & bit) != 0));
+        CHECK((a.number == IND_NOT_READY) == ((l.waiting & bit) != 0));
+        CHECK((a.number == IND_TURN) == ((l.ready & ~l.in_turn & bit) != 0));
+        CHECK((a.number == IND_FINE) == ((l.in_turn & bit) != 0));
+        if (a.number == IND_TURN) {       /* the first bit of the mask */
+            CHECK(a.ahead != j && (l.in_turn >> a.ahead & 1) != 0);
+            CHECK((l.in_turn & ((1u << a.ahead) - 1)) == 0);
+        }
+        if (state->m == IND_MAX_STEPS)
+            continue;
+
+        for (reset = 0; reset < 256; reset++) {
+            uint8_t number = ind_step(list, len, *state, log, sizeof log,
+                                      other, sizeof other, j,
+                                      (uint8_t)reset).number;
+
+            if (reset > state->b && a.number == IND_FINE)
+                CHECK(number == IND_RESET);
+            else
+                CHECK(number == a.number);
+            if (reset == state->b + 1u && reset < 255)
+                reset = 254;              /* up to B, the next, the last */
+            else if (reset == 2 && state->b > 5)
+                reset = state->b - 2u;
+        }
+    }
+}
+
+/* Each reason, each refusal, their order. */
+static void test_why(void)
+{
+    static struct sequence p;
+    uint8_t list[IND_ITEM * 11], before[IND_ITEM * 11], log[32];
+    static const uint8_t resets[8] = { 0 };
+    struct ind_state_answer s, t;
+    struct ind_state u;
+    size_t len = sizeof list;
+
+    purge(&p);
+    CHECK(ind_build(p.bytes, p.len, list, len).count == 11);
+    memcpy(before, list, len);
+    s = ind_start(list, len, 2, resets, 3, log, sizeof log, kept, sizeof kept);
+    CHECK(because(list, len, s.state, 0, only(0)));
+    CHECK(because(list, len, s.state, 1, waits_for(5, 0, 0)));
+    CHECK(because(list, len, s.state, 2, only(0)));
+    s = ind_step(list, len, s.state, log, sizeof log, kept, sizeof kept, 0, 2);
+    CHECK(because(list, len, s.state, 0, only(16)));
+    CHECK(because(list, len, s.state, 1, waits_for(5, 0, 0)));
+    CHECK(because(list, len, s.state, 2, only(0)));
+    CHECK(s.state.pri[1] == 0 && s.state.pri[2] == -1);
+
+    /* station 1 ready: behind, tied, ahead; m does not matter */
+    u = s.state;
+    u.var[0] = 1;
+    for (int i = 0; i < 3; i++) {
+        static const uint16_t steps[3] = { 0, 4095, 4096 };
+
+        u.m = steps[i];
+        u.pri[1] = 0;
+        CHECK(because(list, len, u, 0, only(16)));
+        CHECK(because(list, len, u, 1, behind(2)));
+        CHECK(because(list, len, u, 2, only(0)));
+        u.pri[1] = -1;
+        CHECK(because(list, len, u, 1, only(0)));
+        CHECK(because(list, len, u, 2, only(0)));
+        u.pri[1] = -2;
+        CHECK(because(list, len, u, 1, only(0)));
+        CHECK(because(list, len, u, 2, behind(1)));
+        u.var[0] = 0;                     /* it waits, and is not ahead */
+        CHECK(because(list, len, u, 1, waits_for(5, 0, 0)));
+        CHECK(because(list, len, u, 2, only(0)));
+        u.var[0] = 1;
+        u.pos[1] = 7;                     /* it has ended */
+        CHECK(because(list, len, u, 1, only(16)));
+        CHECK(because(list, len, u, 2, only(0)));
+        u.pos[1] = 5;
+        check_why(list, len, &u);
+    }
+
+    /* 10 by station n and by each above it; where all have ended, too */
+    for (int i = 0; i < 2; i++) {
+        for (unsigned j = 3; j < 256; j++)
+            CHECK(because(list, len, u, (uint8_t)j, only(10)));
+        u.pos[1] = 7;
+        u.pos[2] = 10;
+    }
+
+    /* 8, before 10, whatever the station does */
+    for (int i = 0; i < 8; i++) {
+        static const struct change unsound[8] = {
+            { CHANGE_M, 0, 4097 }, { CHANGE_N, 0, 2 }, { CHANGE_N, 0, 4 },
+            { CHANGE_POS, 1, 6 },         /* inside */
+            { CHANGE_POS, 0, 5 },         /* another station's */
+            { CHANGE_PRI, 2, 3 }, { CHANGE_PRI, 2, -3 }, { CHANGE_PRI, 3, 1 }
+        };
+
+        u = changed(s.state, unsound[i]);
+        for (uint8_t j = 0; j <= 4; j++)
+            CHECK(because(list, len, u, j, only(8)));
+        CHECK(because(list, len, u, 255, only(8)));
+        /* 7, before 8 and 10 */
+        for (uint8_t j = 0; j <= 4; j++) {
+            CHECK(because(list, len - 16, u, j, only(7)));
+            CHECK(because(list, len - 1, s.state, j, only(7)));
+        }
+        CHECK(because(list, len - 16, u, 255, only(7)));
+    }
+    CHECK(because(NULL, 0, s.state, 0, only(7)));
+    CHECK(because(NULL, 0, u, 255, only(7)));
+    list[IND_ITEM * 10 + 12] = 8;         /* a STOP's t2 */
+    CHECK(because(list, len, s.state, 0, only(7)));
+    CHECK(because(list, len, s.state, 1, only(7)));
+    list[IND_ITEM * 10 + 12] = 0;
+    CHECK(memcmp(before, list, len) == 0);
+
+    /* "Dryer": there, and back by undos */
+    dryer(&p);
+    len = ind_build(p.bytes, p.len, list, sizeof list).count * 16u;
+    s = ind_start(list, len, 0, resets, 2, log, sizeof log, kept, sizeof kept);
+    CHECK(because(list, len, s.state, 0, only(0)));
+    CHECK(because(list, len, s.state, 1, waits_for(4, 0, 0)));
+    t = ind_step(list, len, s.state, log, sizeof log, kept, sizeof kept, 0, 0);
+    CHECK(because(list, len, t.state, 0, only(16)));
+    CHECK(because(list, len, t.state, 1, only(0)));
+    s = ind_step(list, len, t.state, log, sizeof log, kept, sizeof kept, 1, 0);
+    CHECK(because(list, len, s.state, 0, only(16)));
+    CHECK(because(list, len, s.state, 1, only(16)));
+    s = ind_undo(list, len, s.state, log, sizeof log, kept, sizeof kept);
+    CHECK(because(list, len, s.state, 0, only(16)));
+    CHECK(because(list, len, s.state, 1, only(0)));
+    s = ind_undo(list, len, s.state, log, sizeof log, kept, sizeof kept);
+    CHECK(because(list, len, s.state, 0, only(0)));
+    CHECK(because(list, len, s.state, 1, waits_for(4, 0, 0)));
+}
+
+/* What a condition names: each op, against a number and against a variable, of
+ * each two variables of a few. */
+static void test_why_named(void)
+{
+    static struct sequence p;
+    static const uint8_t names[7] = { 0, 1, 2, 15, 16, 30, 31 };
+    static const uint32_t pair[12][2] = {
+        { 0, 0 }, { 0, 1 }, { 1, 0 }, { 4, 5 }, { 5, 5 }, { 6, 5 },
+        { 0, UINT32_MAX }, { UINT32_MAX, 0 }, { UINT32_MAX, UINT32_MAX },
+        { 0x7FFFFFFF, 0x80000000 }, { 0x80000000, 0x7FFFFFFF },
+        { 0x01020304, 0x04030201 }
+    };
+    static const uint8_t resets[2] = { 0, 0 };
+    uint8_t list[IND_ITEM * 16], log[16];
+    unsigned long waited[8] = { 0 }, twice = 0;
+
+    for (uint8_t op = 0; op < 8; op++) {
+        for (int i = 0; i < 7 * 7 * 12; i++) {
+            uint8_t b = names[i / 12 % 7], k = names[i / 12 / 7];
+            uint32_t left = pair[i % 12][0], right = pair[i % 12][1];
+            struct ind_why_answer want = only(0);
+            struct ind_state_answer s;
+            size_t len;
+            int fails_here;
+
+            if (op >= 4 && b == k && left != right)
+                continue;
+            if (op < 4 && k != names[0])
+                continue;
+            p.len = 0;
+            add_bare(&p, IND_STATION);
+            add_bare(&p, IND_SKIP);
+            add_bare(&p, IND_STATION);
+            add_block(&p, IND_AWAIT, b, op, op < 4 ? right : k);
+            len = ind_build(p.bytes, p.len, list, sizeof list).count * 16u;
+            s = ind_start(list, len, 0, resets, 2, log, sizeof log, kept,
+                          sizeof kept);
+            for (uint32_t v = 0; v < IND_VARS; v++)
+                s.state.var[v] = 0xA0000000 + v;
+            s.state.var[b] = left;
+            if (op >= 4)
+                s.state.var[k] = right;
+            fails_here = fails_with(op, left, right);
+            if (fails_here)
+                want = waits_for(4, b, left);
+            if (fails_here && op >= 4)
+                want = and_for(want, k, right);
+            waited[op] += (unsigned long)fails_here;
+            twice += fails_here && op >= 4 && b == k;
+            CHECK(because(list, len, s.state, 1, want));
+            CHECK(because(list, len, s.state, 0, only(0)));
+            s.state.pri[0] = -1;          /* behind, it names nothing */
+            if (!fails_here)
+                want = behind(0);
+            CHECK(because(list, len, s.state, 1, want));
+
+            /* IF and WHILE never wait */
+            for (uint8_t kind = IND_IF; kind <= IND_WHILE; kind += 3) {
+                list[IND_ITEM * 4] = kind;
+                list[IND_ITEM * 4 + 10] = 6;
+                s.state.pri[0] = 0;
+                CHECK(because(list, len, s.state, 1, only(0)));
+                s.state.pri[0] = -1;
+                CHECK(because(list, len, s.state, 1, behind(0)));
+            }
+        }
+    }
+    for (int op = 0; op < 8; op++)
+        CHECK(waited[op] >= 20);
+    CHECK(twice >= 40);
+}
+
+/* The station ahead of eight: which are ready, and their priorities. */
+static void test_why_ahead(void)
+{
+    static struct sequence p;
+    static uint8_t list[IND_ITEM * 48];
+    static const uint8_t resets[8] = { 0 };
+    uint8_t log[18];
+    struct ind_state first, s;
+    size_t len;
+
+    p.len = 0;
+    for (uint8_t i = 0; i < 8; i++) {
+        add_bare(&p, IND_STATION);
+        add_block(&p, IND_AWAIT, i, i % 2 == 0 ? 0 : 4, i % 2 == 0 ? 0 : 31);
+    }
+    len = ind_build(p.bytes, p.len, list, sizeof list).count * 16u;
+    CHECK(len == 16 * 32);
+    /* station i at record 8+3i */
+    first = ind_start(list, len, 255, resets, 8, log, sizeof log, kept,
+                      sizeof kept).state;
+
+    /* ties: the lowest-numbered, and the tied may all be picked */
+    for (uint8_t i = 0; i < 7; i++) {
+        s = first;
+        for (uint8_t j = 0; j < 8; j++)
+            s.pri[j] = (int16_t)(j < i ? 9 : 8);
+        s.pri[7] = 255;
+        for (uint8_t j = 0; j < 8; j++)
+            CHECK(because(list, len, s, j,
+                          j < i || j == 7 ? behind(i) : only(0)));
+    }
+    for (int16_t all = 0; all < 256; all++) {
+        for (uint8_t j = 0; j < 8; j++)
+            s.pri[j] = all;
+        for (uint8_t j = 0; j < 8; j++)
+            CHECK(because(list, len, s, j, only(0)));
+    }
+
+    /* negative priorities: -7 to 0, up and down; a waiting and an ended
+     * station of the lowest */
+    for (uint8_t i = 0; i < 8; i++) {
+        s = first;
+        for (uint8_t j = 0; j < 8; j++)
+            s.pri[j] = (int16_t)-((i + j) % 8);
+        for (uint8_t j = 0; j < 8; j++)
+            CHECK(because(list, len, s, j,
+                          j == 7 - i ? only(0) : behind((uint8_t)(7 - i))));
+        s.var[7 - i] = 1;                 /* it waits: -6 is ahead */
+        for (uint8_t j = 0; j < 8; j++) {
+            uint8_t ahead = (uint8_t)((14 - i) % 8);
+
+            if (j == 7 - i)
+                CHECK(because(list, len, s, j,
+                              j % 2 == 0
+                              ? waits_for((uint16_t)(8 + 3 * j), j, 1)
+                              : and_for(waits_for((uint16_t)(8 + 3 * j), j, 1),
+                                        31, 0)));
+            else
+                CHECK(because(list, len, s, j,
+                              j == ahead ? only(0) : behind(ahead)));
+        }
+        s.pos[7 - i] += 2;                /* it has ended */
+        CHECK(because(list, len, s, (uint8_t)(7 - i), only(16)));
+        CHECK(because(list, len, s, (uint8_t)((8 - i) % 8),
+                      behind((uint8_t)((14 - i) % 8))));
+    }
+
+    /* every set of ready stations, the others waiting and ended by turns */
+    for (unsigned mask = 0; mask < 256; mask++) {
+        for (int how = 0; how < 8; how++) {
+            s = first;
+            for (int j = 0; j < 8; j++) {
+                int ready = (int)(mask >> j & 1);
+                int pri[8];
+
+                pri[0] = 0;
+                pri[1] = j;
+                pri[2] = 255 - j;
+                pri[3] = -j;
+                pri[4] = j - 7;
+                pri[5] = (j + (int)mask) % 3;
+                pri[6] = ready ? j / 3 : -(j % 2);
+                pri[7] = ready && j % 3 == 0 ? 1 : 0;
+                s.pri[j] = (int16_t)pri[how];
+                if (!ready && (j + how) % 2 == 0)
+                    s.pos[j] += 2;
+                else if (!ready)
+                    s.var[j] = 1 + mask;
+            }
+            for (uint8_t j = 0; j < 8; j++)
+                CHECK(because(list, len, s, j, defined_why(list, &s, j)));
+            CHECK(because(list, len, s, 8, only(10)));
+        }
+    }
+
+    /* every reset, where B is 0, in the middle and 255: station 2 waits, 6 has
+     * ended, 3 may be picked, the others are behind */
+    for (int b = 0; b < 256; b = b == 0 ? 7 : b == 7 ? 254 : b + 1) {
+        s = first;
+        s.b = (uint8_t)b;
+        s.var[2] = 5;
+        s.pos[6] += 2;
+        s.pri[3] = -3;
+        check_why(list, len, &s);
+        for (unsigned i = 0; i < 9 * 256; i++) {
+            uint8_t number = ind_why(list, len, s, (uint8_t)(i / 256)).number;
+
+            if (number == IND_FINE && i % 256 > (unsigned)b)
+                number = IND_RESET;
+            CHECK(ind_step(list, len, s, log, sizeof log, kept, sizeof kept,
+                           (uint8_t)(i / 256),
+                           (uint8_t)(i % 256)).number == number);
+        }
+    }
+}
+
+/* Lists that someone else wrote: records mixed, several STOPs of a station or
+ * none, and the highest places. */
+static void test_why_foreign(void)
+{
+    static const uint8_t *const list = three_list;
+    static uint8_t longest[IND_ITEM * IND_MAX_ITEMS];
+    static const uint8_t resets[3] = { 0, 0, 0 };
+    uint8_t log[32];
+    struct ind_state_answer s;
+    size_t len = sizeof three_list;
+
+    s = ind_start(list, len, 1, resets, 3, log, sizeof log, kept, sizeof kept);
+    CHECK(s.number == IND_FINE);
+    CHECK(because(list, len, s.state, 0, only(0)));
+    CHECK(because(list, len, s.state, 1,
+                  and_for(waits_for(6, 9, 0), 4, 0)));
+    CHECK(because(list, len, s.state, 2, only(0)));
+    s.state.pos[2] = 11;
+    CHECK(because(list, len, s.state, 2, waits_for(11, 4, 0)));
+    s.state.var[4] = 7;
+    s.state.var[9] = 8;
+    CHECK(because(list, len, s.state, 1,
+                  and_for(waits_for(6, 9, 8), 4, 7)));
+    CHECK(because(list, len, s.state, 2, waits_for(11, 4, 7)));
+
+    /* each of its STOPs, of the lowest priority; the SKIP that nobody
+     * reaches */
+    s.state.var[4] = 9;
+    s.state.pri[0] = -2;
+    for (int i = 0; i < 3; i++) {
+        static const uint16_t stop[3] = { 3, 8, 10 };
+
+        s.state.pos[0] = stop[i];
+        s.state.pos[1] = 6;
+        CHECK(because(list, len, s.state, 0, only(16)));
+        CHECK(because(list, len, s.state, 1, only(0)));
+        s.state.pos[1] = 5;
+        CHECK(because(list, len, s.state, 1, only(0)));
+        s.state.pri[1] = 1;
+        CHECK(because(list, len, s.state, 1, behind(2)));
+        s.state.pri[1] = 0;
+    }
+
+    /* every position, variables and priorities at will; the inside ones are
+     * 8 */
+    for (uint16_t i = 0; i < 13 * 13 * 13; i++) {
+        static const int16_t pri[4][3] = {
+            { 0, 0, 0 }, { 1, 0, 0 }, { -2, -1, 1 }, { 1, 1, -2 }
+        };
+
+        s.state.pos[0] = i % 13;
+        s.state.pos[1] = i / 13 % 13;
+        s.state.pos[2] = (uint16_t)(i / 13 / 13);
+        s.state.var[4] = 6 + i % 5u;
+        s.state.var[9] = 6 + i % 4u;
+        for (int j = 0; j < 3; j++)
+            s.state.pri[j] = pri[i % 4][j];
+        check_why(list, len, &s.state);
+    }
+
+    /* a place of two bytes */
+    len = late_await(longest, sizeof longest, 3, 5, 31);
+    s = ind_start(longest, len, 0, resets, 1, log, sizeof log, kept,
+                  sizeof kept);
+    CHECK(because(longest, len, s.state, 0, only(0)));
+    s.state.pos[0] = 1021;
+    CHECK(because(longest, len, s.state, 0,
+                  and_for(waits_for(1021, 3, 0), 31, 0)));
+    s.state.pos[0] = 1023;
+    CHECK(because(longest, len, s.state, 0, only(16)));
+    s.state.pos[0] = 1024;
+    CHECK(because(longest, len, s.state, 0, only(8)));
+}
+
+/* n stations, each at a SKIP, at an AWAIT that fails, ended and, of four cases,
+ * at an AWAIT that holds, with every priority from `low` to `high`, those that
+ * make no sound state among them. */
+static void test_why_every(uint8_t n, uint8_t b, int low, int high, int cases)
+{
+    static struct sequence p;
+    uint8_t list[IND_ITEM * 24], log[16];
+    static const uint8_t resets[4] = { 0, 0, 0, 0 };
+    struct ind_state_answer s;
+    unsigned each = (unsigned)(cases * (high - low + 1)), all = 1;
+    size_t len;
+
+    p.len = 0;
+    for (uint8_t i = 0; i < n; i++) {
+        add_bare(&p, IND_STATION);
+        add_bare(&p, IND_SKIP);
+        add_block(&p, IND_AWAIT, (uint8_t)(i + 1), (uint8_t)(4 * (i % 2)), 0);
+        all *= each;
+    }
+    len = ind_build(p.bytes, p.len, list, sizeof list).count * 16u;
+    s = ind_start(list, len, b, resets, n, log, sizeof log, kept, sizeof kept);
+    CHECK(s.number == IND_FINE);
+    for (unsigned i = 0; i < all; i++) {
+        struct ind_state u = s.state;
+        unsigned rest = i;
+
+        u.m = (uint16_t)(i % 64);
+        for (uint8_t j = 0; j < n; j++) {
+            static const uint16_t to[4] = { 0, 1, 3, 1 };
+            unsigned what = rest % each;
+
+            u.pos[j] = (uint16_t)(u.pos[j] + to[what % (unsigned)cases]);
+            u.var[j + 1] = what % (unsigned)cases == 1 ? 2u + j : 0;
+            u.pri[j] = (int16_t)(low + (int)(what / (unsigned)cases));
+            rest /= each;
+        }
+        check_why(list, len, &u);
+    }
+}
+
+/* Random lists, the built and the scrambled, in a run, behind undos, and with
+ * variables, positions and priorities as no call left them. */
+static void test_random_why(struct rng *g, int rounds)
+{
+    static uint8_t list[IND_ITEM * IND_MAX_ITEMS], log[400];
+    static struct ind_why_answer seen[64][IND_STATIONS];
+
+    memset(answered, 0, sizeof answered);
+    for (int round = 0; round < rounds; round++) {
+        uint8_t b = chance(g, 80) ? (uint8_t)below(g, 4) : 255;
+        size_t size = 100 + below(g, 400);
+        struct ind_state_answer s;
+        size_t len = start_random(g, size, b, list, &s, log, sizeof log);
+        size_t n = s.state.n;
+
+        for (int turn = 0; turn < 40; turn++) {
+            struct ind_state other = s.state;
+            size_t i = below(g, 8);
+            uint16_t m;
+
+            if (turn % 4 == 0)
+                check_why(list, len, &s.state);
+            for (uint8_t j = 0; j < n; j++)
+                seen[s.state.m][j] = ind_why(list, len, s.state, j);
+
+            for (uint8_t v = 0; v < 3; v++)
+                other.var[v] = random_constant(g);
+            other.m = (uint16_t)below(g, 4097);
+            for (size_t j = 0; j < n; j++) {
+                size_t to = below(g, (uint32_t)(len / 16));
+                int await = chance(g, 60);
+
+                while (to < len / 16
+                       && (list[16 * to] == IND_INIT || list[16 * to + 8] != j
+                           || list[16 * to + 9] != 0
+                           || (await && list[16 * to] != IND_AWAIT)))
+                    to++;
+                if (to < len / 16)
+                    other.pos[j] = (uint16_t)to;
+                if (chance(g, 40))
+                    other.pri[j] = (int16_t)((int)below(g, 5) - 3);
+                if (other.pri[j] > b)
+                    other.pri[j] = b;
+            }
+            if (turn % 2 == 1)
+                check_why(list, len, &other);
+
+            /* behind an undo, the reasons are those of before */
+            m = s.state.m;
+            s = step_or_undo(g, list, len, s.state, log, sizeof log, i);
+            if (s.state.m < m)
+                for (uint8_t j = 0; j < n; j++)
+                    CHECK(because(list, len, s.state, j, seen[s.state.m][j]));
+        }
+    }
+    CHECK(answered[0] > 1000 && answered[8] > 1000 && answered[10] > 1000
+          && answered[11] > 1000 && answered[12] > 1000 && answered[16] > 1000);
 }
 
 /* ------------------------------------------------------------------ */
@@ -2870,7 +3527,7 @@ static void test_kept_trace(struct rng *g)
 
 int main(void)
 {
-    struct rng g = { 1 }, h = { 2 }, k = { 3 };
+    struct rng g = { 1 }, h = { 2 }, k = { 3 }, y = { 4 };
 
     memset(kept, 0xC3, sizeof kept);
     test_check_cases();
@@ -2887,6 +3544,15 @@ int main(void)
     test_shape(6);
     test_random(&g, 1500);
     test_random_lights(&h, 1500);
+    test_why();
+    test_why_named();
+    test_why_ahead();
+    test_why_foreign();
+    test_why_every(1, 2, -2, 3, 4);
+    test_why_every(2, 1, -2, 2, 4);
+    test_why_every(3, 1, -3, 2, 4);
+    test_why_every(4, 0, -3, 0, 3);
+    test_random_why(&y, 200);
     test_kept_bytes();
     test_deep(&k);
     test_another_way(&k);

@@ -5,6 +5,7 @@
  * priorities, and the lights of the state that is there: which stations are ready, in turn, waiting and ended, and
  * which read and write variable 0 next. While station 1 waits it is lit as reading it and not as writing it; once
  * released, as both. Then, station by station and in words, whether it is ready, has ended, or waits and at which record.
+ * Where a pick is refused, a line more says in words why the station was not picked, or what else refused it.
  */
 #include "press.h"
 #include <stdio.h>
@@ -46,6 +47,39 @@ static void show(unsigned number, const press_state *state)
     putchar('\n');
 }
 
+/* Says why a pick of this station was refused with this number: the reason in words, or that the reset is too high. */
+static void explain(unsigned number, const press_state *state, uint8_t station)
+{
+    const press_reason why = press_why(*state, list, list_len, station);
+    printf("  station %u ", (unsigned)station);
+    switch (why.number) {
+    case 0:
+        if (number == PRESS_RESET)
+            printf("may be picked, with a reset of at most %u", (unsigned)state->b);
+        else
+            printf("may be picked, but the step was refused with %u", number);
+        break;
+    case PRESS_TURN:
+        printf("is ready, behind station %u", (unsigned)why.ahead);
+        break;
+    case PRESS_NOT_READY:
+        printf("waits at record %u:", (unsigned)why.place);
+        for (unsigned i = 0; i < why.count; i++)
+            printf("%s variable %u is %lu", i == 0 ? "" : ",", (unsigned)why.variables[i],
+                   (unsigned long)why.values[i]);
+        break;
+    case PRESS_ENDED:
+        printf("has ended");
+        break;
+    case PRESS_COMPONENT:
+        printf("is none of the %u stations", (unsigned)state->n);
+        break;
+    default:
+        printf("can't be asked about: refused with %u", (unsigned)why.number);
+    }
+    putchar('\n');
+}
+
 int main(void)
 {
     const press_built built = press_build(dryer, sizeof dryer, list, sizeof list);
@@ -82,5 +116,7 @@ int main(void)
                                    (uint8_t)station, (uint8_t)reset);
         }
         show(number, &state);
+        if (number != 0 && !(station == 255 && reset == 0))
+            explain(number, &state, (uint8_t)station);
     }
 }

@@ -1,8 +1,8 @@
 /*
  * The press calls for C and C++: check and build a written sequence, start a run of its list, step it, run it, take
- * steps back, ask of a station whether it is ready, and light all of them. Link libpanel.a. Each call answers by the
- * rules of document 01, as docs/AMENDMENTS.md amends them, whatever it is given; none prints, allocates or keeps a
- * pointer.
+ * steps back, ask of a station whether it is ready and why it was not picked, and light all of them. Link libpanel.a.
+ * Each call answers by the rules of document 01, as docs/AMENDMENTS.md amends them, whatever it is given; none prints,
+ * allocates or keeps a pointer.
  *
  * Lending. Bytes are lent as a pointer and their number. No pointer is null, also where the number is 0. What a call
  * writes to (list in press_build; log in press_start; log and kept in press_step, press_advance and press_run; state in
@@ -14,8 +14,9 @@
  * these calls write them; docs/KEPT.md has the bytes of a kept state. Neither has to be cleared before.
  *
  * Refusals. Each answer has a number: 0, or that of the refusal, named below; press_readiness gives 16 and 11 as its
- * answer too. A refused call leaves all that it was lent as it was; where it answers a state, it is the state given, or
- * zeros from press_start. Only press_run may have taken steps before the refusal, and those stand.
+ * answer too, and press_why 16, 11 and 12. A refused call leaves all that it was lent as it was; where it answers a
+ * state, it is the state given, or zeros from press_start. Only press_run may have taken steps before the refusal, and
+ * those stand.
  */
 #ifndef PRESS_H
 #define PRESS_H
@@ -35,17 +36,17 @@ enum {
     PRESS_SHAPE = 4,      /* check, build: a record after which no continuation is well shaped, or an unfinished file */
     PRESS_DEPTH = 5,      /* check, build: a record that is the seventeenth open */
     PRESS_ROOM = 6,       /* build: the list buffer is short; start, step, advance, run: the log or kept is; undo: kept is */
-    PRESS_LIST = 7,       /* start, step, advance, run, undo, readiness, lights: the list is not sound */
-    PRESS_STATE = 8,      /* step, advance, run, undo, readiness, lights: the state is not sound against the list; undo:
-                             nor is the kept state used, or it has another m or b, or a byte that is to be 0 is not */
+    PRESS_LIST = 7,       /* start, step, advance, run, undo, readiness, why, lights: the list is not sound */
+    PRESS_STATE = 8,      /* step, advance, run, undo, readiness, why, lights: the state is not sound against the list;
+                             undo: nor is the kept state used, or it has another m or b, or a byte that is to be 0 is not */
     PRESS_FULL = 9,       /* step, advance, run: 4,096 steps stand */
-    PRESS_COMPONENT = 10, /* step, advance, run, readiness: no such station */
-    PRESS_NOT_READY = 11, /* step, advance, run, readiness: the station is waiting */
-    PRESS_TURN = 12,      /* step, advance, run: the station is ready, and a ready one has a lower priority number */
+    PRESS_COMPONENT = 10, /* step, advance, run, readiness, why: no such station */
+    PRESS_NOT_READY = 11, /* step, advance, run, readiness, why: the station is waiting */
+    PRESS_TURN = 12,      /* step, advance, run, why: the station is ready, and a ready one has a lower priority number */
     PRESS_RESET = 13,     /* start: resets not one a station, or one above b; step, advance, run: a reset above b */
     PRESS_EMPTY = 14,     /* undo: no step stands */
     PRESS_LOG = 15,       /* undo: the log is short, or of what is replayed a start record is wrong or a step refused */
-    PRESS_ENDED = 16      /* step, advance, run, readiness: the station has ended */
+    PRESS_ENDED = 16      /* step, advance, run, readiness, why: the station has ended */
 };
 
 /* Bytes that are always enough. */
@@ -182,6 +183,30 @@ typedef struct press_told {
  * a step that picks this station is refused with the same number, given room in the log and in kept and fewer than 4,096 steps.
  */
 press_told press_readiness(press_state state, const uint8_t *list, size_t list_len, uint8_t station);
+
+/*
+ * Why a station was not picked: one reason, by the number, and what goes with it; all that does not go with it is 0.
+ * 0: it may be picked. PRESS_TURN: it is ready, but behind the station ahead, which is the lowest-numbered of the ready
+ * stations of lowest priority number. PRESS_NOT_READY: it waits at the AWAIT that is record place of the list, whose
+ * condition names the first count of the variables, 1 or 2 of them in the record's order, and they hold these values;
+ * a condition of two variables that are the same names it twice. PRESS_ENDED: it is at a STOP. Or a refusal.
+ */
+typedef struct press_reason {
+    uint8_t number;
+    uint8_t ahead;
+    uint16_t place;
+    uint8_t count;
+    uint8_t variables[2];
+    uint32_t values[2];
+} press_reason;
+
+/*
+ * Why a station was not picked in a state. It keeps nothing from call to call and writes nothing. PRESS_LIST, PRESS_STATE
+ * and PRESS_COMPONENT, in this order, are tested before; refused, it answers zeros and the number. Whatever the reason, a
+ * step that picks this station with a reset of at most b answers the same number, given room in the log and in kept and
+ * fewer than 4,096 steps; so it is taken exactly where the number is 0. That 4,096 steps stand is no refusal here.
+ */
+press_reason press_why(press_state state, const uint8_t *list, size_t list_len, uint8_t station);
 
 /* ---- the lights */
 

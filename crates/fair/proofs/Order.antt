@@ -1,12 +1,13 @@
 -- The order of priorities, as `leZ` tests it: what the rules' own words need of the integers. Assumes nothing.
 use mathlib.Core.Path.{_≡_, refl, sym}
-use mathlib.Core.Bool.{Bool, true, false}
+use mathlib.Core.Bool.{Bool, true, false, not}
 use Prim.Native.Nat.{ℕ, zero, suc}
 use native.Mathlib.Omega.{arith}
-use borrow.Author.Tests.{leb-true, leb-false, le-leb}
-use lib.Dec.{leb·zero, leb·suc-zero, leb·suc-suc}
+use borrow.Author.Tests.{leb-true, leb-false, le-leb, lt-leb, ltb-true, ltb-false}
+use lib.Dec.{leb, ltb, leb·zero, leb·suc-zero, leb·suc-suc}
 use lib.IntN.{ℤ, pos, negsuc, negℤ, predℤ, _-ℤ_, -ℤ-one}
-use lib.Signed.{leZ}
+use lib.Signed.{leZ, ltZ}
+use Rattle.laws.proofs.Choice.{by-test}
 
 -- -k or lower
 abbrev pub low : ℕ → ℤ → Bool
@@ -28,6 +29,16 @@ leZ-other (pos a) (pos b) e = le-leb b a (omega (arith, leb-false a b e))
 leZ-other (pos a) (negsuc b) e = refl
 leZ-other (negsuc a) (pos b) e = sym e
 leZ-other (negsuc a) (negsuc b) e = le-leb a b (omega (arith, leb-false b a e))
+
+leb-not : (a b : ℕ) → leb a b ≡ not (ltb b a)
+leb-not a b = by-test (ltb b a) (λ e. rw e (lt-leb a b (ltb-true b a e))) (λ e. rw e (le-leb a b (ltb-false b a e)))
+
+-- one is at most the other where that is not below it
+pub leZ-not : (p q : ℤ) → leZ p q ≡ not (ltZ q p)
+leZ-not (pos a) (pos b) = leb-not a b
+leZ-not (pos a) (negsuc b) = refl
+leZ-not (negsuc a) (pos b) = refl
+leZ-not (negsuc a) (negsuc b) = leb-not b a
 
 -- losing 1 is becoming low by one more
 low-pred : (k : ℕ) (z : ℤ) → low (suc k) (predℤ z) ≡ low k z

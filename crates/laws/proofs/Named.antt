@@ -1,12 +1,13 @@
--- "Each variable named is below 32": a and b of a record whose fields are right, and of each record of a sound list. Assumes nothing.
+-- "Each variable named is below 32": a and b of a record whose fields are right, and of each record of a sound list; and k of an AWAIT that is
+-- against a variable. Assumes nothing.
 use mathlib.Core.Path.{_≡_, refl, sym}
-use mathlib.Core.Bool.{Bool, true, false, _&&_, and-false, true≢false}
+use mathlib.Core.Bool.{Bool, true, false, _&&_, _||_, and-false, true≢false}
 use mathlib.Core.List.{List, [], _∷_}
-use Prim.Native.Nat.{ℕ, _<_}
+use Prim.Native.Nat.{ℕ, _≤_, _<_}
 use native.Mathlib.Omega.{arith}
 use lib.Dec.{eqb, ltb}
 use lib.ListN.{length, getD, List·getD-eq-default}
-use borrow.Author.Tests.{eqb-true, ltb-true, ltb-false}
+use borrow.Author.Tests.{eqb-true, ltb-true, ltb-false, le-ltb}
 use Rattle.rules.specs.Words.{among, each}
 use Rattle.rules.specs.Names.{STATION, SKIP, SET, IF, ELSE, FI, WHILE, OD, AWAIT, END, STOP, variables}
 use Rattle.rules.specs.Records.{Record, list-record-at, list-count}
@@ -31,10 +32,15 @@ bound outside = true
 abbrev names : Rules → Bool
 names rules = bound (rules .a) && bound (rules .b)
 
-row-names : (rows : List Rules) → each (λ i. names (getD rows i no-row)) (length rows) ≡ true → (op : ℕ) → names (getD rows op no-row) ≡ true
-row-names rows all op =
+-- what holds of each row, and where there is none, holds for every op
+row-all : (f : ℕ → Rules → Bool) → ((op : ℕ) → f op no-row ≡ true)
+    → (rows : List Rules) → each (λ i. f i (getD rows i no-row)) (length rows) ≡ true → (op : ℕ) → f op (getD rows op no-row) ≡ true
+row-all f past rows all op =
     by-test (ltb op (length rows)) (λ l. each-at _ (length rows) all op (ltb-true op (length rows) l))
-    (λ l. rw (List·getD-eq-default rows no-row {n = op} (ltb-false op (length rows) l)))
+    (λ l. rw (List·getD-eq-default rows no-row {n = op} (ltb-false op (length rows) l)) (past op))
+
+row-names : (rows : List Rules) → each (λ i. names (getD rows i no-row)) (length rows) ≡ true → (op : ℕ) → names (getD rows op no-row) ≡ true
+row-names = row-all (λ op. names) (λ op. refl)
 
 -- every row of the table is such a row
 table-names : (kind op : ℕ) → names (rules-of kind op) ≡ true
@@ -88,3 +94,29 @@ module _ (list : List ℕ) (sound : sound-list list ≡ true) (p : ℕ) where
       (λ e. by-test (ltb p (later list))
       (λ d. fields-named r (surely (fields-right r) (λ f. simp (f, and-false) at (initials-right list sound p (ltb-false p (stations list) e) (ltb-true p (later list) d)))))
       (λ d. own-named r (surely (own-right r) (λ f. simp (f, and-false) at (laters-right list sound p (ltb-false p (later list) d) within)))))
+
+-- by a condition against a variable k is not free
+second-bound : (op : ℕ) → (ltb op 4 || bound (getD test-rows op no-row .k)) ≡ true
+unfolding each
+second-bound = row-all (λ op rules. ltb op 4 || bound (rules .k)) (λ op. by-test (ltb op 4) (λ e. rw e) (λ e. rw e)) test-rows refl
+
+-- so that an AWAIT against a variable names one below 32
+await-rules : (r : Record) → r .kind ≡ AWAIT → rules-of (r .kind) (r .op) ≡ getD test-rows (r .op) no-row
+unfolding rules-of
+await-rules r await = rw await
+
+await-second : (r : Record) → r .kind ≡ AWAIT → 4 ≤ r .op → fields-right r ≡ true → r .k < variables
+unfolding fields-right
+await-second r await against right =
+    let rules = rules-of (r .kind) (r .op) in
+    let held : obeys (rules .k) (r .k) ≡ true = surely (obeys (rules .k) (r .k)) (λ d. simp (d, and-false) at right) in
+    below (getD test-rows (r .op) no-row .k) (r .k) (rw (le-ltb (r .op) 4 against) at (second-bound (r .op)))
+    (rw (await-rules r await) at held)
+
+pub sound-second : (list : List ℕ) (p : ℕ) → sound-list list ≡ true → later list ≤ p → p < list-count list
+    → list-record-at list p .own .kind ≡ AWAIT → 4 ≤ list-record-at list p .own .op → list-record-at list p .own .k < variables
+unfolding later-right
+sound-second list p sound from within await against =
+    let r = list-record-at list p .own in
+    let right : own-right r ≡ true = surely (own-right r) (λ f. simp (f, and-false) at (laters-right list sound p from within)) in
+    await-second r await against (rw await at right)

@@ -124,6 +124,19 @@ absent-is list s j =
     there (stops k) = refl
     there (waits w) = refl
 
+-- a readiness that says it is ready, or has ended, is that case
+pub ready-is : (r : Readiness) → says-ready r ≡ true → r ≡ is-ready
+ready-is is-ready h = refl
+ready-is has-ended h = absurd (false≢true h)
+ready-is (waits-at p) h = absurd (false≢true h)
+ready-is is-absent h = absurd (false≢true h)
+
+pub ended-is : (r : Readiness) → says-ended r ≡ true → r ≡ has-ended
+ended-is is-ready h = absurd (false≢true h)
+ended-is has-ended h = refl
+ended-is (waits-at p) h = absurd (false≢true h)
+ended-is is-absent h = absurd (false≢true h)
+
 -- of three tests of which exactly one holds: the first does where the others fail, and then alone
 the-rest : {a b c : Bool} → ExactlyOne a b c → b ≡ false → c ≡ false → a ≡ true
 the-rest the-first e f = refl

@@ -66,6 +66,9 @@ by-number {x = x} {y = y} same = (λ h. same ∙ eq-eqb x y h, λ h. eqb-true x 
 pub ready-number : (r : Readiness) → (told r .number ≡ 0) ↔ (says-ready r ≡ true)
 ready-number r = by-number (ready-by r)
 
+pub ended-number : (r : Readiness) → (told r .number ≡ ENDED) ↔ (says-ended r ≡ true)
+ended-number r = by-number (ended-by r)
+
 -- the place is 0 but where it waits, and there it is where it waits
 no-place : (r : Readiness) → told r .number ≢ NOT-READY → told r .place ≡ 0
 no-place is-ready h = refl
@@ -148,13 +151,13 @@ step-tells list s lent p =
     let ends = step-told list s lent p ENDED (λ z. omega arith) refl refl in
     let waits = step-told list s lent p NOT-READY (λ z. omega arith) refl refl in
     let none = step-told list s lent p COMPONENT (λ z. omega arith) refl refl in
-    let ended-number = by-number (ended-by r) in
+    let ends-when = ended-number r in
     let waiting-number = by-number (waiting-by r) in
     let absent-number = by-number (absent-by r) in
     record {
       ended-when = (
-        λ h. let (can, e) = ends .0 h in (can, ended-number .0 e),
-        λ h. ends .1 (h .0, ended-number .1 (h .1)),
+        λ h. let (can, e) = ends .0 h in (can, ends-when .0 e),
+        λ h. ends .1 (h .0, ends-when .1 (h .1)),
       );
       waiting-when = (
         λ h. let (can, e) = waits .0 h in (can, waiting-number .0 e),

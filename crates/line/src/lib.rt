@@ -28,11 +28,11 @@ fn spelled(state: State, ready: u8, in_turn: u8) -> Text
     requires { ⌜ state .n ≤ max-stations ⌝ }
     ensures { λ r. ⌜ text-of r ≡ decimal (state .m) ++ (32 ∷ decimal ready) ++ (32 ∷ decimal «in_turn») ++ priorities-text (as-state state) 0 (state .n) ++ (10 ∷ []) ⌝ }
 {
-    let steps = Text::empty().decimal(state.m).put(b' ');
+    let steps = Text::empty().decimal(state.m as u32).put(b' ');
     let masks = steps
-        .decimal(ready as u16)
+        .decimal(ready as u32)
         .put(b' ')
-        .decimal(in_turn as u16);
+        .decimal(in_turn as u32);
     with_priorities(masks, state).put(b'\n')
 }
 

@@ -5,11 +5,13 @@ ghost use Rattle.build.specs.Promises.{BuildPromise};
 ghost use Rattle.run.specs.View.{as-state};
 ghost use Rattle.run.specs.Promises.{StartPromise, StepPromise, RunPromise, UndoPromise};
 ghost use Rattle.asking.specs.Promises.{ReadinessPromise};
+ghost use Rattle.explaining.specs.Promises.{WhyPromise};
 ghost use Rattle.lights.specs.Promises.{LightsPromise};
 ghost use Rattle.lent.specs.Promises.{AdvancePromise};
 use build::Built;
 use lights::Lights;
 use readiness::Told;
+use reason::Why;
 use run::Outcome;
 use run::Ran;
 use run::State;
@@ -108,6 +110,14 @@ pub extern "C" fn press_readiness(state: State, list: &[u8], station: u8) -> Tol
     ensures { λ r. ⌜ ReadinessPromise (now (list .entry)) (as-state state) station r ⌝ }
 {
     asking::readiness(state, list, station)
+}
+
+// Why a station was not picked: one reason, as the number that stands for it and what goes with it. Refused, all zeros but the number.
+#[no_mangle]
+pub extern "C" fn press_why(state: State, list: &[u8], station: u8) -> Why
+    ensures { λ r. ⌜ WhyPromise (now (list .entry)) (as-state state) station r ⌝ }
+{
+    explaining::why(state, list, station)
 }
 
 // Which stations are ready, in turn, waiting and ended, and which read and write each variable in their next steps. Refused, all zeros but

@@ -11,3 +11,4 @@ pub use exports::press_run;
 pub use exports::press_start;
 pub use exports::press_step;
 pub use exports::press_undo;
+pub use exports::press_why;

@@ -29,6 +29,7 @@ use Rattle.rules.specs.Run.{steps-from, run}
 use Rattle.rules.specs.Undo.{replay, starts-right, restarted, replayed-near, undo}
 use Rattle.rules.specs.Asked.{asked}
 use Rattle.rules.specs.Lights.{reads, writes, led-to, body, some-of, touches, lights}
+use Rattle.rules.specs.Why.{Why, bare, waits-for, first-in-turn, reason, why}
 use Rattle.rules.specs.Trace.{decimal-digits, priorities-text, line, end-line, taken-pick, picks-text, run-text, start-text, trace}
 use Rattle.rules.specs.Calls.{ruled}
 use Rattle.rules.specs.History.{Call, START, STEP, RUN, UNDO, Steps, height, Now, stepped-on, single-steps, called, calls-from, answered}
@@ -97,6 +98,14 @@ stands vars positions priorities b m =
 abbrev row-of-32 : List ℕ → List ℕ
 row-of-32 masks = masks ++ replicate (variables - length masks) 0
 
+-- what `why` answers of a station that waits, and of one that is behind
+abbrev waits : ℕ → ℕ → List ℕ → List ℕ → Why
+waits place count variables values =
+    record { number = NOT-READY; ahead = 0; place = place; count = count; variables = variables; values = values }
+
+abbrev stands-behind : ℕ → Why
+stands-behind i = record { number = TURN; ahead = i; place = 0; count = 0; variables = 0 ∷ 0 ∷ []; values = 0 ∷ 0 ∷ [] }
+
 abbrev goes : State → Answered
 goes s = record { number = 0; state = s }
 
@@ -125,6 +134,8 @@ data Row : Type 0 where
   passes-most : List ℕ → ℕ → List ℕ → List Call → ℕ → Row
   -- a file, and calls on its list; what the readiness of each station, and of one more, tells in the last state answered
   tells : List ℕ → List Call → List Answer → Row
+  -- a file, and calls on its list; why each station, and one more, was not picked in the last state answered
+  reasons : List ℕ → List Call → List Why → Row
   -- a file, and calls on its list; the read masks and the write masks in the last state answered, the zeros after them left out
   lights-up : List ℕ → List Call → List ℕ → List ℕ → Row
   -- the three files of the trace program; what it prints
@@ -145,6 +156,9 @@ Holds (passes-most file b resets cs j) =
 Holds (tells file cs told) =
     let s = calls-from ruled (list-made file) fresh cs .state in
     values (asked (list-made file) s) (s .n + 1) ≡ told
+Holds (reasons file cs given) =
+    let s = calls-from ruled (list-made file) fresh cs .state in
+    values (why (list-made file) s) (s .n + 1) ≡ given
 Holds (lights-up file cs read write) =
     let lit = lights (list-made file) (calls-from ruled (list-made file) fresh cs .state) in
     ((lit .number ∷ []) ∷ lit .rows) ≡ (0 ∷ []) ∷ row-of-32 read ∷ row-of-32 write ∷ []
@@ -172,6 +186,13 @@ abbrev feeder : List ℕ
 feeder =
     plain STATION ++ eight SET 0 0 0 1
     ++ plain STATION ++ eight AWAIT 0 0 5 1 ++ eight SET 2 3 1 0 ++ plain END
+
+-- ours: SET v1 := 7; SET v2 := 9; STATION; AWAIT v2 equals v1; SKIP; END; STATION; SET v2 := 7; STATION; SKIP; STATION; SKIP
+abbrev quartet : List ℕ
+quartet =
+    eight SET 1 0 0 7 ++ eight SET 2 0 0 9
+    ++ plain STATION ++ eight AWAIT 0 2 4 1 ++ plain SKIP ++ plain END
+    ++ plain STATION ++ eight SET 2 0 0 7 ++ plain STATION ++ plain SKIP ++ plain STATION ++ plain SKIP
 
 -- ours: STATION; WHILE v0 = v0; SET v0 := v0+1; OD
 abbrev counter : List ℕ
@@ -267,6 +288,18 @@ table =
     ∷ plays dryer (START 0 (0 ∷ 0 ∷ []) ∷ pick 0 0 ∷ pick 0 0 ∷ []) (goes dryer-0 ∷ goes dryer-1 ∷ refused ENDED dryer-1 ∷ [])
     -- ours: and after the undo of that step it waits again
     ∷ tells dryer (START 0 (0 ∷ 0 ∷ []) ∷ pick 0 0 ∷ UNDO ∷ []) (answer 0 0 ∷ answer NOT-READY 4 ∷ answer COMPONENT 0 ∷ [])
+    -- ours: why each of them was not picked: at the start station 1 waits for variable 0, which is 0; then station 0 has ended; and back
+    ∷ reasons dryer (START 0 (0 ∷ 0 ∷ []) ∷ []) (bare 0 ∷ waits 4 1 (0 ∷ 0 ∷ []) (0 ∷ 0 ∷ []) ∷ bare COMPONENT ∷ [])
+    ∷ reasons dryer (START 0 (0 ∷ 0 ∷ []) ∷ pick 0 0 ∷ []) (bare ENDED ∷ bare 0 ∷ bare COMPONENT ∷ [])
+    ∷ reasons dryer (START 0 (0 ∷ 0 ∷ []) ∷ pick 0 0 ∷ UNDO ∷ []) (bare 0 ∷ waits 4 1 (0 ∷ 0 ∷ []) (0 ∷ 0 ∷ []) ∷ bare COMPONENT ∷ [])
+    -- ours: station 0 of the quartet waits for two variables, and its priority is the lowest; of the ready 1 and 2 have the lowest, and 3 is
+    -- behind 1. After station 1's step station 0 is ready too, and 3 is behind 0
+    ∷ reasons quartet (START 2 (0 ∷ 1 ∷ 1 ∷ 2 ∷ []) ∷ [])
+    (waits 6 2 (2 ∷ 1 ∷ []) (9 ∷ 7 ∷ []) ∷ bare 0 ∷ bare 0 ∷ stands-behind 1 ∷ bare COMPONENT ∷ [])
+    ∷ reasons quartet (START 2 (0 ∷ 1 ∷ 1 ∷ 2 ∷ []) ∷ pick 1 0 ∷ [])
+    (bare 0 ∷ bare ENDED ∷ bare 0 ∷ stands-behind 0 ∷ bare COMPONENT ∷ [])
+    -- ours: and P10's pair where picking 0 is TURN
+    ∷ reasons pair (START 1 (0 ∷ 1 ∷ []) ∷ pick 0 0 ∷ pick 0 0 ∷ []) (stands-behind 1 ∷ bare 0 ∷ bare COMPONENT ∷ [])
     -- At the start variable 0 has read mask 2 and, as document 02 amends it, write mask 1
     ∷ lights-up dryer (START 0 (0 ∷ 0 ∷ []) ∷ []) (2 ∷ []) (1 ∷ [])
     -- ours: released, station 1 shows what its body does; after the undo of that step the body is out again
@@ -313,7 +346,7 @@ table =
     ∷ []
 
 all-hold : Every table
-unfolding each first tally mask values changed joined written judge record-from list-record-at rules-of fields-right stride wrong-at walked well-shaped too-deep-at check wrong-length field-place station-count depth-place parts-of stations-of leading-sets initial-part size laid inits bodies list-of bytes-of build stations initials-after is-at init-right initial-right outside-targets inside-target inside-targets later-right sound-list few-low empty-at sound-state set-value holds initial-run started start-records start readiness-at readiness ended waiting ready lowest body-run step-vars step-position charge stepped picked encoded kept-state kept-zeros kept-right keep step steps-from run replay starts-right restarted replayed-near undo asked reads writes led-to body some-of touches lights decimal-digits priorities-text line end-line taken-pick picks-text run-text start-text trace stepped-on single-steps called calls-from answers passed-over
+unfolding each first tally mask values changed joined written judge record-from list-record-at rules-of fields-right stride wrong-at walked well-shaped too-deep-at check wrong-length field-place station-count depth-place parts-of stations-of leading-sets initial-part size laid inits bodies list-of bytes-of build stations initials-after is-at init-right initial-right outside-targets inside-target inside-targets later-right sound-list few-low empty-at sound-state set-value holds initial-run started start-records start readiness-at readiness ended waiting ready lowest body-run step-vars step-position charge stepped picked encoded kept-state kept-zeros kept-right keep step steps-from run replay starts-right restarted replayed-near undo asked waits-for first-in-turn reason why reads writes led-to body some-of touches lights decimal-digits priorities-text line end-line taken-pick picks-text run-text start-text trace stepped-on single-steps called calls-from answers passed-over
 all-hold =
     refl and refl and refl and refl and refl and refl and refl and refl and refl and refl
-    and refl and refl and refl and refl and refl and refl and refl and refl and refl and refl and refl and refl and refl and refl and refl and refl and refl and refl and refl and refl and refl and refl and refl and refl and refl and refl and refl and done
+    and refl and refl and refl and refl and refl and refl and refl and refl and refl and refl and refl and refl and refl and refl and refl and refl and refl and refl and refl and refl and refl and refl and refl and refl and refl and refl and refl and refl and refl and refl and refl and refl and refl and done

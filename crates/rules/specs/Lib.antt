@@ -21,6 +21,7 @@ pub mod Run
 pub mod Undo
 pub mod Lights
 pub mod Asked
+pub mod Why
 pub mod Trace
 pub mod Calls
 pub mod History

@@ -1,6 +1,8 @@
-// Bytes of the trace program's files and buffers.
+// Bytes of the files and buffers of the programs over a folder, and how many of a list's are its records.
 ghost use mathlib.Core.Path.{_≡_};
 ghost use mathlib.Core.List.{[], _∷_};
+ghost use Prim.Native.Nat.{_*_};
+ghost use lib.ListN.{take};
 ghost use Rattle.sizes.specs.Sizes.{enough, enough-starts, list-bytes, log-bytes, kept-bytes};
 use record::Record;
 
@@ -21,4 +23,16 @@ pub fn all() -> [usize; 5]
     ensures { λ r. ⌜ r ≡ enough ∷ enough-starts ∷ list-bytes ∷ log-bytes ∷ kept-bytes ∷ [] ⌝ }
 {
     [ENOUGH, ENOUGH_STARTS, LIST_BYTES, LOG_BYTES, KEPT_BYTES]
+}
+
+// The records of a list that are counted.
+pub fn used(list: &[u8], count: u16) -> &[u8]
+    ensures { λ r. ⌜ now r ≡ take (16 * count) (now (list .entry)) ⌝ }
+{
+    let end = 16 * count as usize;
+    if end <= list.len() {
+        &list[..end]
+    } else {
+        list
+    }
 }

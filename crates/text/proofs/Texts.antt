@@ -19,6 +19,16 @@ module _ (size : ℕ) where
   put-after a b c first then =
       rw (then, first, take-again size (a ++ b) c, append-assoc)
 
+  -- four times
+  pub put-four : (first a b c d : List ℕ) {t u v w : List ℕ}
+      → t ≡ take size (first ++ a)
+      → u ≡ take size (t ++ b)
+      → v ≡ take size (u ++ c)
+      → w ≡ take size (v ++ d)
+      → w ≡ take size (first ++ (a ++ b ++ c ++ d))
+  put-four first a b c d one two three four =
+      put-after first (a ++ b ++ c) d (put-after first (a ++ b) c (put-after first a b one two) three) four
+
 module _ (bytes : List ℕ) (len byte size : ℕ) (whole : length bytes ≡ size) where
   -- a byte for which there is room
   pub put-in : len < size → take (len + 1) (set bytes len byte) ≡ take size (take len bytes ++ (byte ∷ []))

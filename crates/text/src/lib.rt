@@ -5,9 +5,10 @@ ghost use lib.ListN.{take};
 ghost use Rattle.rules.specs.Trace.{decimal as decimalOf, signed as signedOf, end-line as endLine};
 ghost use Rattle.text.specs.View.{max-line, text-of};
 
-// Bytes of a text, at most: m of five digits, two masks of three, eight priorities of six, a space before each but the first, and the end
-// of the line.
-const MAX_LINE: usize = 70;
+// Bytes of a text, at most: those of the longest line, which says of a station where it waits and names two variables and their values, with
+// every number as long as it can be. A state's line has 70: m of five digits, two masks of three, eight priorities of six, a space before each
+// but the first, and the end of the line.
+const MAX_LINE: usize = 74;
 
 // A text: the first `len` of the bytes.
 pub struct Text {
@@ -38,8 +39,21 @@ impl Text {
         self
     }
 
+    // The text with bytes after it, as far as there is room.
+    pub fn words(self, bytes: &[u8]) -> Text
+        ensures { λ r. ⌜ text-of r ≡ take max-line (text-of self ++ now (bytes .entry)) ⌝ }
+    {
+        let mut text = self;
+        let mut i: usize = 0;
+        while i < bytes.len() {
+            text = text.put(bytes[i]);
+            i += 1;
+        }
+        text
+    }
+
     // The text with a number in decimal after it, as far as there is room.
-    pub fn decimal(self, x: u16) -> Text
+    pub fn decimal(self, x: u32) -> Text
         ensures { λ r. ⌜ text-of r ≡ take max-line (text-of self ++ decimalOf x) ⌝ }
     {
         if x < 10 {
@@ -55,9 +69,9 @@ impl Text {
     {
         if p < 0 {
             let below = 0 - p as i32;
-            return self.put(b'-').decimal(below as u16);
+            return self.put(b'-').decimal(below as u32);
         }
-        self.decimal(p as u16)
+        self.decimal(p as u32)
     }
 }
 
@@ -65,6 +79,8 @@ impl Text {
 pub fn end_line(number: u8) -> Text
     ensures { λ r. ⌜ text-of r ≡ endLine number ⌝ }
 {
-    let end = Text::empty().put(b'e').put(b'n').put(b'd').put(b' ');
-    end.decimal(number as u16).put(b'\n')
+    Text::empty()
+        .words(b"end ")
+        .decimal(number as u32)
+        .put(b'\n')
 }

@@ -179,7 +179,7 @@ built-says a starts picks =
     (λ yes. rw yes (listed-says (a .count) (a .buffer) starts picks))
     (λ no. rw no (ending-says (a .buffer) picks _ (a .number)))
 
-begun-says : (program starts picks : List ℕ) → still-from picks (fresh-opened program starts) ≡ trace program starts picks
+pub begun-says : (program starts picks : List ℕ) → still-from picks (fresh-opened program starts) ≡ trace program starts picks
 unfolding opened trace
 begun-says program starts picks = built-says (build program (replicate (16 * max-list) 0)) starts picks
 

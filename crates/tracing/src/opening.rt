@@ -1,7 +1,5 @@
 // Where a trace begins: the list built from the program, and the start.
 ghost use mathlib.Core.Path.{_≡_};
-ghost use Prim.Native.Nat.{_*_};
-ghost use lib.ListN.{take};
 ghost use Rattle.tracing.specs.Tracing.{ending, opened};
 ghost use Rattle.tracing.specs.View.{as-tracing, as-opened};
 use crate::Next;
@@ -21,7 +19,13 @@ pub fn open(program: &[u8], starts: &[u8], list: &mut [u8], log: &mut [u8], kept
     if starts.len() == 0 {
         return ending(Record::RESET);
     }
-    let started = run::start(used(list, built.count), starts[0], &starts[1..], log, kept);
+    let started = run::start(
+        sizes::used(list, built.count),
+        starts[0],
+        &starts[1..],
+        log,
+        kept,
+    );
     if started.number != 0 {
         return ending(started.number);
     }
@@ -30,18 +34,6 @@ pub fn open(program: &[u8], starts: &[u8], list: &mut [u8], log: &mut [u8], kept
         state,
         count: built.count,
         next: Next::Start,
-    }
-}
-
-// The records of a list that are counted.
-pub(crate) fn used(list: &[u8], count: u16) -> &[u8]
-    ensures { λ r. ⌜ now r ≡ take (16 * count) (now (list .entry)) ⌝ }
-{
-    let end = 16 * count as usize;
-    if end <= list.len() {
-        &list[..end]
-    } else {
-        list
     }
 }
 

@@ -8,7 +8,6 @@ ghost use Rattle.tracing.specs.View.{as-tracing, as-piece};
 use crate::Next;
 use crate::Printed;
 use crate::Tracer;
-use crate::opening;
 use record::Record;
 use text::Text;
 use text::end_line;
@@ -41,7 +40,7 @@ impl Tracer {
     pub fn next(self, list: &[u8], log: &mut [u8], kept: &mut [u8], picks: &[u8]) -> Printed
         ensures { λ r. ⌜ as-piece r (record { log = now (log .exit); kept = now (kept .exit) }) ≡ piece (now (list .entry)) (now (picks .entry)) (record { log = now (log .entry); kept = now (kept .entry) }) (as-tracing self) ⌝ }
     {
-        let own = opening::used(list, self.count);
+        let own = sizes::used(list, self.count);
         let state = self.state;
         let next = self.next;
         match next {

@@ -1,10 +1,11 @@
 // The pick order, of what is known of the stations: which are ready, their priorities, and what the picked one's readiness tells.
 ghost use mathlib.Core.Path.{_≡_};
-ghost use mathlib.Core.Bool.{false, not};
+ghost use mathlib.Core.Bool.{false, _&&_, _||_, not};
 ghost use mathlib.Core.List.{[], _∷_};
 ghost use lib.Dec.{eqb};
 ghost use lib.ListN.{getD};
-ghost use Rattle.rules.specs.Words.{if_then_else_, _refuses_at_, refusal};
+ghost use lib.Signed.{ltZ};
+ghost use Rattle.rules.specs.Words.{if_then_else_, first, _refuses_at_, refusal};
 ghost use Rattle.rules.specs.Names.{TURN, RESET};
 ghost use Rattle.rules.specs.State.{priority-in};
 ghost use Rattle.rules.specs.Turn.{yields-to, lowest-of};
@@ -33,6 +34,31 @@ fn yields(ready: bool, own: i16, other: i16) -> bool
         return own <= other;
     }
     true
+}
+
+// The lowest-numbered of the ready stations of lowest priority, of n stations; n where none is ready.
+pub fn first_in_turn(all: [bool; 8], priorities: [i16; 8], n: usize) -> usize
+    ensures { λ r. ⌜ r ≡ first (λ i. getD all i false && lowest-of n (λ j. getD all j false) (priority-in priorities) i) n ⌝ }
+{
+    let mut found = n;
+    let mut j: usize = 0;
+    while j < n {
+        if ready_in(all, j) && comes_before(priorities, j, found, n) {
+            found = j;
+        }
+        j += 1;
+    }
+    found
+}
+
+// Whether station j has a lower priority than the station found, or none of n is found yet.
+fn comes_before(priorities: [i16; 8], j: usize, found: usize, n: usize) -> bool
+    ensures { λ r. ⌜ r ≡ (eqb found n || ltZ (priority-in priorities j) (priority-in priorities found)) ⌝ }
+{
+    if found == n {
+        return true;
+    }
+    priority(priorities, j) < priority(priorities, found)
 }
 
 // What refuses the pick of a station of the list: what its readiness tells, 0 where it is ready; then that it is not lowest, and that the

@@ -8,7 +8,7 @@ ghost use Rattle.rules.specs.Values.{plus, minus, set-value, compares};
 ghost use Rattle.values.specs.Fields.{fields};
 
 // What a variable holds; past the last one 0.
-fn variable(vars: &[u32], number: usize) -> u32
+pub fn variable(vars: &[u32], number: usize) -> u32
     ensures { λ x. ⌜ x ≡ getD (now (vars .entry)) number 0 ⌝ }
 {
     if number < vars.len() {

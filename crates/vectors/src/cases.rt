@@ -32,6 +32,8 @@ const LIGHTS: u8 = 7;
 
 const READINESS: u8 = 9;
 
+const WHY: u8 = 10;
+
 // Reads the fields of a call by its number and writes its line. It answers whether to go on: not at a number that none of them has, or where
 // the line cannot be written.
 pub fn answer(file: i32, call: u8) -> bool {
@@ -44,6 +46,7 @@ pub fn answer(file: i32, call: u8) -> bool {
         UNDO => undo(file),
         LIGHTS => lights(file),
         READINESS => readiness(file),
+        WHY => why(file),
         _ => false,
     }
 }
@@ -177,6 +180,32 @@ fn readiness(file: i32) -> bool {
     let station = byte(file);
     let told = panel::press_readiness(given, list, station);
     line(READINESS, &[told.number as u64, told.place as u64])
+}
+
+// A case of why: a list, a state and a station. Its line: the number, the place, the station ahead, how many variables are named, and the two
+// variables and their values.
+fn why(file: i32) -> bool {
+    let mut list = buffer();
+    let list = field(file, &mut list);
+    let given = state(file);
+    half(file);
+    let station = byte(file);
+    let why = panel::press_why(given, list, station);
+    let first = why.seen(0);
+    let second = why.seen(1);
+    line(
+        WHY,
+        &[
+            why.number as u64,
+            why.place as u64,
+            why.ahead as u64,
+            why.count as u64,
+            first.variable as u64,
+            second.variable as u64,
+            first.value as u64,
+            second.value as u64,
+        ],
+    )
 }
 
 // The line of a start and of a step: the number, the state and the two buffers.

@@ -1,6 +1,7 @@
 -- `line::spelled` meets its contract: there is room for the whole line. Assumes nothing.
 use Rattle.text.proofs.Texts.{put-line}
 use Rattle.text.proofs.Digits.{length-decimal}
+use Rattle.text.specs.View.{max-line}
 use Rattle.rules.specs.Trace.{decimal, priorities-text}
 use Rattle.run.specs.View.{as-state}
 use native.Mathlib.Omega.{arith}
@@ -11,6 +12,9 @@ use Rattle.line.proofs.spelled.Tie as tie
 
 empty-requires : tie.Need-empty-requires
 empty-requires c κs = search needs
+
+cast-decimal : tie.Need-cast-decimal
+cast-decimal c = search needs
 
 decimal-requires : tie.Need-decimal-requires
 decimal-requires c κs = search needs
@@ -40,15 +44,15 @@ steps c = omega arith
 returns : tie.Need-returns
 returns c =
     let masks = c .before .before .before .before in
-    let start = masks .before .before .before .before in
+    let start = masks .before .before .before .before .before in
     let a = start .args in
     let few = steps start in
     let m = length-decimal 4 (a .state .m) (omega (arith, few)) in
     let ready = length-decimal 2 (a .ready) (omega (arith, start .fits .ready .fits)) in
     let turn = length-decimal 2 (a .in-turn) (omega (arith, start .fits .in-turn .fits)) in
     let rest = c .before .with-priorities .ensures .1 in
-    put-line 70 (decimal (a .state .m)) (decimal (a .ready)) (decimal (a .in-turn)) (priorities-text (as-state (a .state)) 0 (a .state .n)) (omega (arith, m, ready, turn, rest, start .pre))
-    (masks .before .before .before .empty .ensures)
+    put-line max-line (decimal (a .state .m)) (decimal (a .ready)) (decimal (a .in-turn)) (priorities-text (as-state (a .state)) 0 (a .state .n)) (omega (arith, m, ready, turn, rest, start .pre))
+    (masks .before .before .before .before .empty .ensures)
     (masks .before .before .decimal .ensures)
     (masks .before .put .ensures)
     (masks .decimal2 .ensures)
@@ -62,6 +66,7 @@ spelled-spec =
     tie.close
     (tie.spec
     empty-requires
+    cast-decimal
     decimal-requires
     put-requires
     decimal-requires-2

@@ -1,7 +1,7 @@
 -- `text::Text::decimal` meets its contract. The measure is the number, which loses its last digit with each call. Assumes nothing.
 use Rattle.text.proofs.Texts.{put-after}
 use Rattle.text.proofs.Digits.{digits-one, decimal-more}
-use Rattle.text.specs.View.{text-of}
+use Rattle.text.specs.View.{max-line, text-of}
 use native.Mathlib.Nat.{div-lt-self}
 use native.Mathlib.Omega.{arith}
 use mathlib.Core.List.{[], _∷_}
@@ -104,7 +104,7 @@ decimal-returns-2 t c =
     let at = c .before .before .before .args in
     let x = at .x in
     rw (decimal-more x (omega arith))
-    (put-after 70 (text-of (at .self)) _ ((48 + x % 10) ∷ []) (c .before .decimal .ensures) (c .put2 .ensures))
+    (put-after max-line (text-of (at .self)) _ ((48 + x % 10) ∷ []) (c .before .decimal .ensures) (c .put2 .ensures))
 
 pub +decimal-spec : {M : Type 1} → statement M
 +decimal-spec = close μ-decimal λ t. decimal-lts.spec (

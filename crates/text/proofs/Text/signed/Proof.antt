@@ -1,7 +1,7 @@
 -- `text::Text::signed` meets its contract, by whether the priority is below 0. Assumes nothing.
 use Rattle.text.proofs.Texts.{put-after}
 use Rattle.text.proofs.Signed.{within, widened, from-zero, signed-below, not-below}
-use Rattle.text.specs.View.{text-of}
+use Rattle.text.specs.View.{max-line, text-of}
 use Rattle.rules.specs.Trace.{decimal, signed}
 use native.Mathlib.Omega.{arith}
 use mathlib.Core.List.{[], _∷_}
@@ -51,7 +51,7 @@ returns c =
     let low = rw (toZ-ofZ w16 p fits) at (c .before .before .if1 .taken) in
     let rest =
     rw (widened p fits, from-zero p low, toZ-ofZ w32 (pos (natAbs p)) (record { sfits = omega arith })) at (c .decimal .ensures) in
-    rw (signed-below p low) (put-after 70 (text-of (start .args .self)) (45 ∷ []) (decimal (natAbs p)) (c .before .put .ensures) rest)
+    rw (signed-below p low) (put-after max-line (text-of (start .args .self)) (45 ∷ []) (decimal (natAbs p)) (c .before .put .ensures) rest)
 
 cast-decimal-2 : tie.Need-cast-decimal-2
 cast-decimal-2 c =

@@ -1,11 +1,11 @@
--- `tracing::opening::used` meets its contract, also where the list is shorter. Assumes nothing.
+-- `sizes::used` meets its contract, also where the list is shorter. Assumes nothing.
 use native.Mathlib.Omega.{arith}
 use mathlib.Core.Path.{sym}
 use Prim.Native.Nat.{_*_}
 use lib.Seq.{take-all, length-take-le}
 use borrow.Author.Needs.{needs}
-use Rattle.tracing.proofs.opening.used.Statement.{statement}
-use Rattle.tracing.proofs.opening.used.Tie as tie
+use Rattle.sizes.proofs.used.Statement.{statement}
+use Rattle.sizes.proofs.used.Tie as tie
 
 mul-end : tie.Need-mul-end
 mul-end c = search needs

@@ -1,0 +1,1 @@
+// Theorems about why a station was not picked. They are proofs, under proofs/; there is no code here.

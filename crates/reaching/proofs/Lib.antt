@@ -1,0 +1,3 @@
+pub mod Pieces
+pub mod Ends
+pub mod Calls

@@ -1,0 +1,2 @@
+-- The code's reasons, set beside the rules.
+pub mod View
