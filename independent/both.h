@@ -17,6 +17,7 @@ static inline press_state same_as(const struct ind_state *t)
     memcpy(s.vars, t->var, sizeof s.vars);
     memcpy(s.positions, t->pos, sizeof s.positions);
     memcpy(s.priorities, t->pri, sizeof s.priorities);
+    memcpy(s.counts, t->cnt, sizeof s.counts);
     s.n = t->n;
     s.b = t->b;
     s.m = t->m;
@@ -26,7 +27,8 @@ static inline press_state same_as(const struct ind_state *t)
 static inline int same_state(const press_state *s, const struct ind_state *t)
 {
     return memcmp(s->vars, t->var, sizeof s->vars) == 0 && memcmp(s->positions, t->pos, sizeof s->positions) == 0
-        && memcmp(s->priorities, t->pri, sizeof s->priorities) == 0 && s->n == t->n && s->b == t->b && s->m == t->m;
+        && memcmp(s->priorities, t->pri, sizeof s->priorities) == 0
+        && memcmp(s->counts, t->cnt, sizeof s->counts) == 0 && s->n == t->n && s->b == t->b && s->m == t->m;
 }
 
 static inline int same_reason(const press_reason *r, const struct ind_why_answer *t)

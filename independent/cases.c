@@ -27,8 +27,8 @@
  *   9 readiness   list, state, station (1 byte)
  *   10 why        list, state, station (1 byte)
  *
- * A state is 164 bytes: 32 variables of 4, 8 positions of 2, 8 priorities of
- * 2 (two's complement), n, B, m of 2; low bytes first.
+ * A state is 180 bytes: 32 variables of 4, 8 positions of 2, 8 priorities of
+ * 2 (two's complement), 8 counts of 2, n, B, m of 2; low bytes first.
  *
  * A kept field does not hold the kept buffer but describes it: 2 bytes L, the
  * buffer's length, low byte first; 1 byte f, and byte i of the buffer is
@@ -64,10 +64,10 @@
 enum call { CHECK = 1, BUILD, START, STEP, RUN, UNDO, LIGHTS, TRACE,
             READINESS, WHY };
 
-enum { STATE_BYTES = 164, MAX_FIELDS = 6, NUMBERS = 17, CALLS = 11,
+enum { STATE_BYTES = 180, MAX_FIELDS = 6, NUMBERS = 17, CALLS = 11,
        ROUNDS = 75, READINESS_ROUNDS = 70, LIGHTS_ROUNDS = 30,
-       KEPT_ROUNDS = 32, WHY_ROUNDS = 80, SMALL_LIST = 192, KEPT_LIST = 480,
-       WHY_LIST = 256 };
+       KEPT_ROUNDS = 32, WHY_ROUNDS = 80, COUNTS_ROUNDS = 40,
+       SMALL_LIST = 192, KEPT_LIST = 480, WHY_LIST = 256 };
 
 static const char *const call_name[CALLS] = {
     "", "check", "build", "start", "step", "run", "undo", "lights", "trace",
@@ -114,6 +114,16 @@ static void *room(size_t len)
 /* States as bytes, kept buffers, and H                               */
 /* ------------------------------------------------------------------ */
 
+/* Where the counts begin in a state's bytes, and how many bytes they are. */
+enum { COUNTS_AT = 160, COUNTS_BYTES = 16 };
+
+static uint8_t *pack_two(uint8_t *p, uint16_t value)
+{
+    p[0] = (uint8_t)(value & 255);
+    p[1] = (uint8_t)(value >> 8);
+    return p + 2;
+}
+
 static void pack_state(const struct ind_state *s, uint8_t out[STATE_BYTES])
 {
     uint8_t *p = out;
@@ -121,20 +131,15 @@ static void pack_state(const struct ind_state *s, uint8_t out[STATE_BYTES])
     for (int i = 0; i < IND_VARS; i++)
         for (int j = 0; j < 4; j++)
             *p++ = (uint8_t)(s->var[i] >> 8 * j & 255);
-    for (int i = 0; i < IND_STATIONS; i++) {
-        *p++ = (uint8_t)(s->pos[i] & 255);
-        *p++ = (uint8_t)(s->pos[i] >> 8);
-    }
-    for (int i = 0; i < IND_STATIONS; i++) {
-        uint16_t pri = (uint16_t)s->pri[i];
-
-        *p++ = (uint8_t)(pri & 255);
-        *p++ = (uint8_t)(pri >> 8);
-    }
+    for (int i = 0; i < IND_STATIONS; i++)
+        p = pack_two(p, s->pos[i]);
+    for (int i = 0; i < IND_STATIONS; i++)
+        p = pack_two(p, (uint16_t)s->pri[i]);
+    for (int i = 0; i < IND_STATIONS; i++)
+        p = pack_two(p, s->cnt[i]);
     *p++ = s->n;
     *p++ = s->b;
-    *p++ = (uint8_t)(s->m & 255);
-    *p++ = (uint8_t)(s->m >> 8);
+    pack_two(p, s->m);
 }
 
 static struct ind_state unpack_state(const uint8_t in[STATE_BYTES])
@@ -154,24 +159,25 @@ static struct ind_state unpack_state(const uint8_t in[STATE_BYTES])
 
         s.pri[i] = (int16_t)(pri >= 32768 ? pri - 65536 : pri);
     }
+    for (int i = 0; i < IND_STATIONS; i++, p += 2)
+        s.cnt[i] = (uint16_t)(p[0] | p[1] << 8);
     s.n = p[0];
     s.b = p[1];
     s.m = (uint16_t)(p[2] | p[3] << 8);
     return s;
 }
 
-/* The bytes of a kept place, as docs/KEPT.md has them: a priority is 32,768
- * higher, and 16 bytes before n and 4 behind m are zero. */
+/* The bytes of a kept place, as docs/KEPT.md has them: a state's, but that a
+ * priority is 32,768 higher, and 4 behind m that are zero. */
 static void pack_kept(const struct ind_state *s, uint8_t out[IND_KEPT_PLACE])
 {
     uint8_t packed[STATE_BYTES];
 
     pack_state(s, packed);
     memset(out, 0, IND_KEPT_PLACE);
-    memcpy(out, packed, 160);
+    memcpy(out, packed, sizeof packed);
     for (int i = 145; i < 160; i += 2)
         out[i] ^= 128;
-    memcpy(out + 176, packed + 160, 4);
 }
 
 /* The kept buffer that a field describes, in memory of its own of just its
@@ -557,8 +563,7 @@ struct lent {
 /* A buffer of this length and fill, without a patch. */
 static void lend(struct lent *k, size_t length, uint8_t fill)
 {
-    k->bytes[0] = (uint8_t)(length & 255);
-    k->bytes[1] = (uint8_t)(length >> 8);
+    pack_two(k->bytes, (uint16_t)length);
     k->bytes[2] = fill;
     k->len = 3;
 }
@@ -569,10 +574,8 @@ static void patch(struct lent *k, size_t at, const uint8_t *p, size_t count)
 
     if (at > 65535 || k->len + 4 + count > sizeof k->bytes)
         die("a patch too many");
-    to[0] = (uint8_t)(at & 255);
-    to[1] = (uint8_t)(at >> 8);
-    to[2] = (uint8_t)(count & 255);
-    to[3] = (uint8_t)(count >> 8);
+    pack_two(to, (uint16_t)at);
+    pack_two(to + 2, (uint16_t)count);
     memcpy(to + 4, p, count);
     k->len += 4 + count;
 }
@@ -919,13 +922,7 @@ static void dryer(struct sequence *p)
 
 static void two_loops(struct sequence *p)
 {
-    p->len = 0;
-    for (int i = 0; i < 2; i++) {
-        add_bare(p, IND_STATION);
-        add(p, IND_WHILE, 0, 0, 4, 0);
-        add_bare(p, IND_SKIP);
-        add_bare(p, IND_OD);
-    }
+    loops(p, 2);
 }
 
 static void one_loop(struct sequence *p)
@@ -1271,10 +1268,11 @@ static void refusals(struct writer *w)
         }
         x.log[i] = was;
     }
-    /* undo 0 whatever the variables, positions and priorities given */
+    /* undo 0 whatever the variables, positions, priorities and counts given */
     s = x.state;
     s.var[3] = 77;
     s.pri[0] = s.pri[1];
+    clear_counts(&s);
     s.pos[0] = 2;
     case_undo(w, x.list, x.len, &s, x.log, full);
     s.m = 2;
@@ -1852,7 +1850,7 @@ static void hand_made(struct writer *w)
 static struct ind_state random_state(struct rng *g, const struct press *x)
 {
     static const uint16_t marks[] = { 0, 1, 2, 3, 7, 4095, 4096, 4097, 65535 };
-    struct ind_state s = { { 0 }, { 0 }, { 0 }, 0, 0, 0 };
+    struct ind_state s = { 0 };
     size_t items = x->len / IND_ITEM;
     uint32_t last = (uint32_t)x->n;
 
@@ -2133,6 +2131,7 @@ static void readiness(struct writer *w)
     for (uint8_t station = 0; station < 3; station++) {
         s = x.state;
         s.pri[station] = 3;
+        clear_counts(&s);
         case_readiness(w, x.list, x.len, &s, station);
         s.pri[station] = -2;
         case_readiness(w, x.list, x.len, &s, station);
@@ -3084,7 +3083,7 @@ static void reach(struct writer *w)
  * zero, priorities below zero and above. */
 static struct ind_state some_kept(const struct press *x, size_t q, uint8_t b)
 {
-    struct ind_state s = { { 0 }, { 0 }, { 0 }, 0, 0, 0 };
+    struct ind_state s = { 0 };
 
     for (unsigned v = 0; v < IND_VARS; v++)
         s.var[v] = 0xF1E2D3C4 - 0x07050301 * v;
@@ -3265,6 +3264,7 @@ static void wrong_kept(struct writer *w)
         other.var[v] = ~other.var[v];
     other.pri[0] = 3;
     other.pri[2] = -1;
+    clear_counts(&other);
     lend_junk(&kept, w);
     patch_state(&kept, 5, &there);
     case_undo_kept(w, x.list, x.len, &other, x.log, log_length(&x, 0), &kept);
@@ -3337,6 +3337,7 @@ static void followed(struct writer *w)
             s.var[v] = 0x98765432 + 0x11131517 * (v + n);
         for (int i = 0; i < n; i++)
             s.pri[i] = (int16_t)(i == n / 2 ? 3 : -(i / 2));
+        clear_counts(&s);
         s.m = 64;
         lend_junk(&kept, w);
         patch_state(&kept, 1, &s);
@@ -3995,6 +3996,444 @@ static void foreign_why(struct writer *w)
 }
 
 /* ------------------------------------------------------------------ */
+/* How often each station was passed over                             */
+/* ------------------------------------------------------------------ */
+
+/* The flickers with B = 6, station 0 nearly always in turn. */
+static void flickers_going(struct press *x, struct sequence *p)
+{
+    static const uint8_t resets[IND_STATIONS] = { 0, 2, 0, 3, 6 };
+
+    flickers(p);
+    load(x, p);
+    set_going(x, 6, resets);
+}
+
+/* The pick of the last station in turn, with a reset of 0 for station 0 and of
+ * B for the others. */
+static void patient_pick(const struct press *x, uint8_t pick[2])
+{
+    way_pick(x, 1, pick);
+    pick[1] = pick[0] == 0 ? 0 : x->state.b;
+}
+
+/* A step and, once it is taken, the undo of it. */
+static void step_and_undo(struct writer *w, struct press *x,
+                          const uint8_t pick[2])
+{
+    case_step(w, x->list, x->len, &x->state, x->log, log_length(x, 1),
+              pick[0], pick[1]);
+    if (go(x, pick, 1) != 1)
+        die("a step meant to be taken was refused");
+    run_undo(w, x, &x->state, x->log, log_length(x, 0));
+}
+
+/* Each reason of being counted or not, and undos of each: picked, passed over,
+ * waiting, ended, released by this very step, made to wait by it. */
+static void counted(struct writer *w)
+{
+    static struct sequence p;
+    static struct press x;
+    static const uint8_t zeros[8];
+    static uint8_t picks[2 * 40];
+    uint8_t pick[2], start[6] = { 6, 0, 2, 0, 3, 6 };
+    struct ind_state first;
+    size_t count = 0;
+
+    flickers_going(&x, &p);
+    first = x.state;
+    case_start(w, x.list, x.len, 6, start + 1, 5, x.log, 10);
+    for (; count < 26; count++) {
+        patient_pick(&x, pick);
+        memcpy(picks + 2 * count, pick, 2);
+        step_and_undo(w, &x, pick);
+    }
+    /* all of them by RUN, some of them, and one refused behind some */
+    for (uint64_t most = 1; most <= 26; most += 5)
+        case_run(w, x.list, x.len, &first, x.log, 2 * (5 + 26), picks, 52,
+                 most);
+    for (size_t i = 3; i <= 23; i += 10) {
+        uint8_t was[2];
+
+        memcpy(was, picks + 2 * i, 2);
+        picks[2 * i] = 3;                         /* it waits */
+        case_run(w, x.list, x.len, &first, x.log, 2 * (5 + 26), picks, 52,
+                 99);
+        memcpy(picks + 2 * i, was, 2);
+    }
+    /* the trace there, and back again */
+    for (size_t i = 0; i < 8; i++) {
+        picks[2 * (count + i)] = 255;
+        picks[2 * (count + i) + 1] = 0;
+    }
+    case_trace(w, &p, start, 6, picks, 2 * count);
+    case_trace(w, &p, start, 6, picks, 2 * (count + 8));
+
+    /* the lights, readiness and why are those of any other counts */
+    case_lights(w, x.list, x.len, &x.state);
+    each_station(w, READINESS, &x, &x.state);
+    each_station(w, WHY, &x, &x.state);
+
+    /* counts as no call left them: whoever waits or has ended keeps his, the
+     * others get one more, the picked one's becomes 0; undo gives back what
+     * the log says */
+    for (int i = 0; i < 4; i++) {
+        static const uint8_t more[4][5] = {
+            { 1, 1, 1, 1, 1 }, { 7, 0, 0, 0, 0 }, { 0, 0, 9, 6, 0 },
+            { 5, 4, 3, 2, 1 }
+        };
+        struct press y = x;
+
+        for (int j = 0; j < 5; j++) {
+            y.state.pri[j] = (int16_t)-((i + j) % 5);
+            y.state.cnt[j] = more[i][j];
+            y.state.var[0] = (uint32_t)(i % 2);
+        }
+        for (uint8_t station = 0; station < 5; station++)
+            case_step(w, y.list, y.len, &y.state, y.log, log_length(&y, 1),
+                      station, (uint8_t)(station + i));
+        run_undo(w, &y, &y.state, y.log, log_length(&y, 0));
+        case_lights(w, y.list, y.len, &y.state);
+    }
+
+    /* one station is never passed over; of two the other one is */
+    for (size_t n = 1; n <= 2; n++) {
+        skips(&x, n);
+        set_going(&x, 2, zeros);
+        for (int i = 0; i < 3; i++) {
+            patient_pick(&x, pick);
+            step_and_undo(w, &x, pick);
+        }
+    }
+}
+
+/* The longest waits: counts of 255, 256, 257 and 262, as picks reach them, kept
+ * and taken back; and the traces of others. */
+static void long_waits(struct writer *w)
+{
+    static struct sequence p;
+    static struct press x;
+    static struct lent kept;
+    static uint8_t picks[2 * 270];
+    uint8_t start[9];
+    size_t count = longest_wait(8, 255, start, picks);
+    struct ind_state first;
+
+    skips(&x, 8);
+    set_going(&x, 255, start + 1);
+    first = x.state;
+    lend_junk(&kept, w);
+    for (uint64_t most = 255; most <= count; most++)
+        if (most <= 257 || most >= 262)
+            case_run_kept(w, x.list, x.len, &first, x.log, 2 * (8 + count),
+                          &kept, picks, 2 * count, most);
+    go(&x, picks, 253);
+    for (size_t i = 253; i < count; i++)
+        step_and_undo(w, &x, picks + 2 * i);
+    back_to(&x, 262);
+    if (x.state.cnt[7] != 262)
+        die("not the longest wait");
+    for (uint8_t station = 6; station <= 8; station++) {
+        case_readiness(w, x.list, x.len, &x.state, station);
+        case_why(w, x.list, x.len, &x.state, station);
+    }
+    /* back to where the counts are 255 */
+    for (; x.state.m > 254; back_to(&x, x.state.m - 1u))
+        case_lights(w, x.list, x.len, &x.state);
+
+    loops(&p, 8);
+    for (size_t i = 0; i < 8; i++) {
+        picks[2 * (count + i - 1)] = 255;
+        picks[2 * (count + i - 1) + 1] = 0;
+    }
+    case_trace(w, &p, start, 9, picks, 2 * (count - 1));
+    case_trace(w, &p, start, 9, picks, 2 * (count + 7));
+    for (size_t n = 1; n <= 7; n++) {
+        static const uint8_t b[8] = { 0, 9, 1, 12, 0, 98, 4, 255 };
+
+        loops(&p, n);
+        count = longest_wait(n, b[n], start, picks);
+        case_trace(w, &p, start, n + 1, picks, 2 * count);
+        picks[2 * count] = 255;
+        picks[2 * count + 1] = 0;
+        case_trace(w, &p, start, n + 1, picks, 2 * count + 2);
+    }
+}
+
+/* "each station's priority plus its count is at most B, and counts from n on
+ * are zero": at B and one above, with priorities below 0 and counts above B;
+ * counts of two bytes.  lights 0 and 8. */
+static void sums(struct writer *w)
+{
+    static const uint16_t large[] = { 255, 256, 257, 262, 263, 32767, 32768,
+                                      65528, 65535 };
+    static struct press x;
+    static const uint8_t zeros[8];
+    struct ind_state s;
+
+    for (size_t n = 1; n <= 8; n++) {
+        int low = 1 - (int)n;
+
+        skips(&x, n);
+        for (unsigned k = 0; k < 3; k++) {
+            static const uint8_t b[3] = { 0, 3, 255 };
+            int pri[3] = { b[k], 0, low };
+
+            set_going(&x, b[k], zeros);
+            for (unsigned j = 0; j < 3; j++) {
+                size_t i = (n + 3 * k + j) % n;
+
+                if (j > 0 && pri[j] == pri[j - 1])
+                    continue;
+                s = x.state;
+                s.pri[i] = (int16_t)pri[j];
+                for (int over = 0; over <= 1; over++) {
+                    s.cnt[i] = (uint16_t)(b[k] - pri[j] + over);
+                    case_lights(w, x.list, x.len, &s);
+                }
+            }
+            /* all at B, each of another priority; then one above */
+            s = x.state;
+            for (size_t i = 0; i < n; i++) {
+                s.pri[i] = (int16_t)(low + (int)i);
+                s.cnt[i] = (uint16_t)(b[k] - s.pri[i]);
+            }
+            if (n == 1)                           /* as before */
+                continue;
+            case_lights(w, x.list, x.len, &s);
+            s.cnt[k % n]++;
+            case_lights(w, x.list, x.len, &s);
+        }
+        /* from n on: each byte of it; all but one are 0 */
+        for (size_t i = n; i < IND_STATIONS; i += 1 + n % 2) {
+            s = x.state;
+            s.cnt[i] = (uint16_t)(i % 3 == 0 ? 1 : i % 3 == 1 ? 256 : 65535);
+            case_lights(w, x.list, x.len, &s);
+        }
+    }
+
+    /* large counts: 0 where a priority is so low and B so high, else 8 */
+    for (size_t n = 3; n <= 8; n += 5) {
+        skips(&x, n);
+        for (int k = 0; k < 2; k++) {
+            set_going(&x, k == 0 ? 255 : 5, zeros);
+            for (size_t i = 0; i < sizeof large / sizeof large[0]; i++) {
+                const int pri[4] = { 1 - (int)n, -1, 0, x.state.b };
+
+                for (size_t j = 0; j < 4; j++) {
+                    if ((k == 1 || n == 3) && j % 2 == i % 2)
+                        continue;
+                    s = x.state;
+                    s.pri[(i + j) % n] = (int16_t)pri[j];
+                    s.cnt[(i + j) % n] = large[i];
+                    case_lights(w, x.list, x.len, &s);
+                }
+            }
+            /* beside priorities that are too low or too high anyhow */
+            if (n == 8)
+                continue;
+            s = x.state;
+            s.pri[1] = INT16_MIN;
+            s.cnt[1] = 32768;
+            case_lights(w, x.list, x.len, &s);
+            s.cnt[1] = 65535;
+            case_lights(w, x.list, x.len, &s);
+            s.cnt[1] = 0;
+            s.pri[1] = INT16_MAX;
+            case_lights(w, x.list, x.len, &s);
+            s.cnt[1] = 65535;                     /* 32,766 in 16 bits */
+            case_lights(w, x.list, x.len, &s);
+        }
+    }
+}
+
+/* A state that is unsound by its counts alone, in every call: 8, where it comes
+ * in the order of each. */
+static void unsound_counts(struct writer *w)
+{
+    static const struct change unsound[6] = {
+        { CHANGE_CNT, 2, 5 }, { CHANGE_CNT, 0, 1 }, { CHANGE_CNT, 1, 4 },
+        { CHANGE_CNT, 2, 65535 }, { CHANGE_CNT, 3, 1 }, { CHANGE_CNT, 7, 256 }
+    };
+    static const struct change sound[3] = {
+        { CHANGE_CNT, 2, 4 }, { CHANGE_CNT, 1, 3 }, { CHANGE_CNT, 2, 0 }
+    };
+    static struct press x;
+    static struct lent less;
+    static const uint8_t picks[] = { 2, 0, 2, 0, 2 };
+    struct ind_state s;
+    size_t full;
+
+    /* station 0 has ended with its priority at B, station 1 waits, station 2
+     * was passed over */
+    purge_going(&x);
+    x.state.pri[0] = 3;
+    full = log_length(&x, 2);
+    ask_changed(w, READINESS, &x, unsound, 6, 0);
+    ask_changed(w, WHY, &x, unsound, 6, 0);
+    ask_changed(w, READINESS, &x, sound, 3, 0);
+    ask_changed(w, WHY, &x, sound, 3, 0);
+    lend(&less, IND_KEPT_BYTES - 1, 1);
+    for (int i = 0; i < 6 + 3; i++) {
+        s = changed(x.state, i < 6 ? unsound[i] : sound[i - 6]);
+        case_lights(w, x.list, x.len, &s);
+        case_step(w, x.list, x.len, &s, x.log, full, 2, 1);
+        case_run(w, x.list, x.len, &s, x.log, full, picks, 4, 9);
+        case_run(w, x.list, x.len, &s, x.log, full, picks, 4, 0);
+        case_undo(w, x.list, x.len, &s, x.log, full);
+        if (i % 3 != 0)
+            continue;
+        case_lights(w, x.list, x.len - 16, &s);       /* 7 before it */
+        case_step(w, x.list, x.len - 16, &s, x.log, full, 2, 1);
+        case_undo(w, x.list, x.len - 16, &s, x.log, full);
+        case_run(w, x.list, x.len - 16, &s, x.log, full, picks, 4, 1);
+        case_run(w, x.list, x.len, &s, x.log, full, picks, 5, 1);
+        case_step(w, x.list, x.len, &s, x.log, 3, 9, 9);
+        case_step_kept(w, x.list, x.len, &s, x.log, full, &less, 9, 9);
+        case_undo_kept(w, x.list, x.len, &s, x.log, full, &less);
+        s.m = 4096;                                   /* 9 behind it */
+        case_step(w, x.list, x.len, &s, x.log, full, 2, 1);
+        s.m = 0;                                      /* 14 behind it */
+        case_undo(w, x.list, x.len, &s, x.log, full);
+    }
+}
+
+/* A refused step leaves the counts, and so does a run that begins with one: 6,
+ * 10, 16, 11, 12 and 13 behind steps that counted. */
+static void refused_counts(struct writer *w)
+{
+    static const uint8_t refused[7][2] = {
+        { 5, 0 }, { 255, 0 }, { 2, 0 }, { 3, 0 }, { 1, 0 }, { 4, 1 }, { 0, 7 }
+    };
+    static struct sequence p;
+    static struct press x;
+    uint8_t picks[4], pick[2];
+
+    flickers_going(&x, &p);
+    for (int i = 0; i < 7; i++) {
+        patient_pick(&x, pick);
+        go(&x, pick, 1);
+    }
+    for (int i = 0; i < 7; i++) {
+        case_step(w, x.list, x.len, &x.state, x.log, log_length(&x, 2),
+                  refused[i][0], refused[i][1]);
+        patient_pick(&x, picks);
+        memcpy(picks + 2, refused[i], 2);
+        case_run(w, x.list, x.len, &x.state, x.log, log_length(&x, 2),
+                 picks + 2, 2, 9);
+        case_run(w, x.list, x.len, &x.state, x.log, log_length(&x, 2), picks,
+                 4, 9);
+    }
+    case_step(w, x.list, x.len, &x.state, x.log, log_length(&x, 0), 0, 0);
+    case_undo(w, x.list, x.len, &x.state, x.log, log_length(&x, 0) - 1);
+    x.state.m = 4096;
+    case_step(w, x.list, x.len, &x.state, x.log, log_length(&x, 0), 0, 0);
+}
+
+/* Kept places with counts: written, used, and used where their counts are
+ * others, sound and not. */
+static void kept_counts(struct writer *w)
+{
+    static const uint16_t counts[] = { 1, 9, 254, 255, 256, 261 };
+    static struct press x;
+    static struct sequence p;
+    static struct lent kept;
+    static uint8_t picks[2 * 64];
+    struct ind_state there;
+    uint8_t pick[2];
+
+    /* steps to 64 and 4,096 with counts of one byte and of two, and undos from
+     * the places that they write */
+    skips(&x, 8);
+    for (size_t i = 0; i < sizeof counts / sizeof counts[0]; i++) {
+        there = some_kept(&x, 1, 255);
+        for (int j = 0; j < 8; j++) {
+            there.pri[j] = (int16_t)-j;
+            there.cnt[j] = (uint16_t)(counts[i] < 255 + j ? counts[i]
+                                                          : 255 + j);
+        }
+        there.cnt[i] = 0;
+        for (int k = 0; k < 2; k++) {
+            there.m = k == 0 ? 63 : 4095;
+            x.state = there;
+            way_pick(&x, 0, pick);
+            lend_junk(&kept, w);
+            if (k == 0 || i == 4)
+                case_step_kept(w, x.list, x.len, &x.state, x.log,
+                               log_length(&x, 1), &kept, pick[0], pick[1]);
+        }
+        there.m = 64;
+        stand_past(&x, &there, 1 + i % 2);
+        lend_junk(&kept, w);
+        patch_state(&kept, 1, &there);
+        case_undo_kept(w, x.list, x.len, &x.state, x.log, log_length(&x, 0),
+                       &kept);
+    }
+
+    /* a run across 64 and 128 where stations flicker, and undos from it */
+    flickers_going(&x, &p);
+    for (uint16_t m = 64; m <= 128; m = (uint16_t)(m + 64)) {
+        struct ind_state before;
+
+        for (size_t i = 0; x.state.m < m + 2; i++) {
+            if (x.state.m == m - 3)
+                before = x.state;
+            patient_pick(&x, pick);
+            if (x.state.m >= m - 3)
+                memcpy(picks + 2 * (x.state.m + 3u - m), pick, 2);
+            go(&x, pick, 1);
+        }
+        lend_junk(&kept, w);
+        case_run_kept(w, x.list, x.len, &before, x.log, log_length(&x, 0),
+                      &kept, picks, 10, 9);
+        for (size_t from = m + 2u; from >= m; from--) {
+            there = x.state;
+            there.m = (uint16_t)from;
+            run_undo(w, &x, &there, x.log, 2 * (5 + from));
+        }
+    }
+
+    /* each count of the place at B and one above, from n on, and in each of
+     * its bytes: followed, or 8 */
+    skips(&x, 3);
+    there = some_kept(&x, 2, 5);
+    for (int j = 0; j < 3; j++)
+        there.cnt[j] = (uint16_t)(2 - there.pri[j] > 0 ? 1 : 0);
+    stand_past(&x, &there, 1);
+    for (uint8_t j = 0; j < IND_STATIONS; j++) {
+        for (int i = 0; i < 6; i++) {
+            const int number[6] = {
+                there.b - there.pri[j], there.b - there.pri[j] + 1, 0, 2, 256,
+                65535
+            };
+            struct ind_state other = changed(there, (struct change){
+                CHANGE_CNT, j, number[i]
+            });
+
+            if (j > 3 && i < 4 && (i + j) % 4 != 0)
+                continue;
+            lend_junk(&kept, w);
+            patch_state(&kept, 2, &other);
+            case_undo_kept(w, x.list, x.len, &x.state, x.log,
+                           log_length(&x, 0), &kept);
+        }
+    }
+    /* the given state's counts are others: no matter; its own are not sound:
+     * 8 */
+    lend_junk(&kept, w);
+    patch_state(&kept, 2, &there);
+    for (int i = 0; i < 3; i++) {
+        struct ind_state given = x.state;
+
+        for (int j = 0; j < 3; j++)
+            given.cnt[j] = (uint16_t)(i == 0 ? 0 : given.b - given.pri[j]);
+        given.cnt[1] = (uint16_t)(given.cnt[1] + (i == 2));
+        case_undo_kept(w, x.list, x.len, &given, x.log, log_length(&x, 0),
+                       &kept);
+    }
+}
+
+/* ------------------------------------------------------------------ */
 /* Random cases                                                       */
 /* ------------------------------------------------------------------ */
 
@@ -4335,19 +4774,28 @@ static void stray(struct writer *w, struct rng *g, struct press *x)
     }
 }
 
+/* A state of any bytes, but that the counts are 0. */
+static struct ind_state state_of_bytes(struct rng *g,
+                                       uint8_t bytes[STATE_BYTES])
+{
+    for (size_t i = 0; i < STATE_BYTES; i++) {
+        bytes[i] = 0;
+        if (i < COUNTS_AT || i >= COUNTS_AT + COUNTS_BYTES)
+            bytes[i] = (uint8_t)(chance(g, 50) ? 0 : draw(g));
+    }
+    return unpack_state(bytes);
+}
+
 /* Bytes at random as a list, a state, a log: mostly 7, sometimes a sound list
  * with a state of any bytes. */
 static void noise(struct writer *w, struct rng *g, struct press *x)
 {
     uint8_t bytes[STATE_BYTES], log[24];
-    struct ind_state s;
+    struct ind_state s = state_of_bytes(g, bytes);
     size_t len = x->len;
 
-    for (size_t i = 0; i < sizeof bytes; i++)
-        bytes[i] = (uint8_t)(chance(g, 50) ? 0 : draw(g));
     for (size_t i = 0; i < sizeof log; i++)
         log[i] = (uint8_t)draw(g);
-    s = unpack_state(bytes);
     if (chance(g, 30)) {
         s.n = (uint8_t)x->n;
         s.m = (uint16_t)below(g, 4100);
@@ -4461,11 +4909,8 @@ static void random_run(struct rng *g, struct press *x, uint8_t b)
 static struct ind_state any_state(struct rng *g, const struct press *x)
 {
     uint8_t bytes[STATE_BYTES];
-    struct ind_state s;
+    struct ind_state s = state_of_bytes(g, bytes);
 
-    for (size_t i = 0; i < sizeof bytes; i++)
-        bytes[i] = (uint8_t)(chance(g, 50) ? 0 : draw(g));
-    s = unpack_state(bytes);
     if (chance(g, 50))
         s.n = (uint8_t)x->n;
     return s;
@@ -4812,6 +5257,109 @@ static void random_why(struct writer *w, struct rng *g, size_t most)
     }
 }
 
+/* Gives the state counts: mostly such that each station's priority and count
+ * together are at most B, and often just B; at times one that is any. */
+static void random_counts(struct rng *g, const struct press *x,
+                          struct ind_state *s)
+{
+    static const uint16_t marks[] = { 1, 255, 256, 262, 32767, 32768, 65535 };
+
+    for (size_t i = 0; i < x->n; i++) {
+        int most = s->b - s->pri[i];
+
+        if (most > 0 && most <= 255 + IND_STATIONS)
+            s->cnt[i] = (uint16_t)(chance(g, 30) ? (uint32_t)most
+                                   : below(g, (uint32_t)most + 1));
+    }
+    if (chance(g, 35)) {
+        size_t i = below(g, IND_STATIONS);
+
+        switch (below(g, 4)) {
+        case 0:
+            s->cnt[i] = (uint16_t)(s->b - s->pri[i] + 1);
+            break;
+        case 1:
+            s->cnt[i] = marks[below(g, 7)];
+            break;
+        case 2:
+            s->cnt[i]++;
+            break;
+        default:
+            s->cnt[i] = (uint16_t)below(g, s->b + (uint32_t)x->n);
+            break;
+        }
+    }
+}
+
+/* An undo that goes from a kept state with such counts, over a few records. */
+static void random_kept_counts(struct writer *w, struct rng *g,
+                               struct press *x, struct ind_state there)
+{
+    static struct lent kept;
+    struct ind_state given;
+    uint8_t picks[8];
+    size_t count = below(g, 4);
+
+    there.m = IND_KEPT_EVERY;
+    lend_junk(&kept, w);
+    patch_state(&kept, 1, &there);
+    x->state = there;
+    count = random_picks(g, x, picks, count, 98);
+    go(x, picks, count);
+    given = x->state;
+    if (given.m == IND_KEPT_EVERY) {
+        given.m++;
+        clear_counts(&given);
+    }
+    case_undo_kept(w, x->list, x->len, &given, x->log,
+                   2 * (x->n + given.m), &kept);
+}
+
+/* One round about counts: each call that takes a state, with counts that no
+ * call left; of lists of at most `most` bytes. */
+static void random_counted(struct writer *w, struct rng *g, size_t most)
+{
+    static struct press x;
+
+    for (int what = 0; what < 6; what++) {
+        struct ind_state s = press_to_ask(g, WHY, &x, most);
+        uint8_t picks[16];
+        size_t count;
+
+        random_counts(g, &x, &s);
+        if (s.m > 6)
+            s.m = (uint16_t)(60 + below(g, 6));
+        memset(x.log, 0xEE, sizeof x.log);
+        x.state = s;
+        switch (what) {
+        case 0:
+            random_pick(g, &x, picks, 90);
+            case_step(w, x.list, x.len, &s, x.log, log_length(&x, 1),
+                      picks[0], picks[1]);
+            break;
+        case 1:
+            count = 1 + below(g, 8);
+            count = random_picks(g, &x, picks, count, 95);
+            case_run(w, x.list, x.len, &s, x.log, log_length(&x, count),
+                     picks, 2 * count, UINT64_MAX);
+            break;
+        case 2:
+            random_kept_counts(w, g, &x, s);
+            break;
+        case 3:
+            case_lights(w, x.list, x.len, &s);
+            break;
+        case 4:
+            case_readiness(w, x.list, x.len, &s,
+                           station_to_ask(g, READINESS, &x, &s));
+            break;
+        default:
+            case_why(w, x.list, x.len, &s, station_to_ask(g, WHY, &x, &s));
+            break;
+        }
+    }
+}
+
 /* One round of random cases of each sort. */
 static void random_round(struct writer *w, struct rng *g)
 {
@@ -4903,11 +5451,19 @@ static struct rng why_rng(uint64_t seed)
     return g;
 }
 
+/* The generator of the cases about counts, likewise. */
+static struct rng counts_rng(uint64_t seed)
+{
+    struct rng g = { seed ^ UINT64_C(0x5EED0F0002620255) };
+
+    return g;
+}
+
 static int write_stream(uint64_t seed)
 {
     static struct writer w;
     struct rng g = { seed }, h = readiness_rng(seed), l = lights_rng(seed);
-    struct rng k = kept_rng(seed), y = why_rng(seed);
+    struct rng k = kept_rng(seed), y = why_rng(seed), c = counts_rng(seed);
 
     w.out = stdout;
     bench_check(&w);
@@ -4951,6 +5507,14 @@ static int write_stream(uint64_t seed)
     foreign_why(&w);
     for (int i = 0; i < WHY_ROUNDS; i++)
         random_why(&w, &y, WHY_LIST);
+    counted(&w);
+    long_waits(&w);
+    sums(&w);
+    unsound_counts(&w);
+    refused_counts(&w);
+    kept_counts(&w);
+    for (int i = 0; i < COUNTS_ROUNDS; i++)
+        random_counted(&w, &c, SMALL_LIST);
     if (fflush(stdout) != 0)
         die("cannot write");
     return report(&w) != 0;
@@ -4960,7 +5524,7 @@ static int write_random(uint64_t seed, unsigned long rounds)
 {
     static struct writer w;
     struct rng g = { seed }, h = readiness_rng(seed), l = lights_rng(seed);
-    struct rng k = kept_rng(seed), y = why_rng(seed);
+    struct rng k = kept_rng(seed), y = why_rng(seed), c = counts_rng(seed);
 
     w.out = stdout;
     while (rounds-- > 0) {
@@ -4969,6 +5533,7 @@ static int write_random(uint64_t seed, unsigned long rounds)
         random_lights(&w, &l, SIZE_MAX);
         random_kept(&w, &k, SIZE_MAX, chance(&k, 4) ? IND_MAX_STEPS : 400);
         random_why(&w, &y, SIZE_MAX);
+        random_counted(&w, &c, SIZE_MAX);
     }
     if (fflush(stdout) != 0)
         die("cannot write");

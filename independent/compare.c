@@ -64,7 +64,7 @@ static void make_kept(struct field *f)
     *f = made;
 }
 
-/* The state that 164 bytes spell, as each library has it. */
+/* The state that 180 bytes spell, as each library has it. */
 static struct ind_state their_state(const uint8_t *p)
 {
     struct ind_state s;
@@ -74,10 +74,11 @@ static struct ind_state their_state(const uint8_t *p)
     for (int i = 0; i < 8; i++) {
         s.pos[i] = half(p + 128 + 2 * i);
         s.pri[i] = (int16_t)half(p + 144 + 2 * i);
+        s.cnt[i] = half(p + 160 + 2 * i);
     }
-    s.n = p[160];
-    s.b = p[161];
-    s.m = half(p + 162);
+    s.n = p[176];
+    s.b = p[177];
+    s.m = half(p + 178);
     return s;
 }
 

@@ -619,10 +619,12 @@ static int sound_state(const struct list *list, const struct ind_state *state)
         return 0;
     for (int i = 0; i < n; i++) {
         /* "each of the first n positions is an outside record of its
-         * station, each priority is at most B" */
+         * station" */
         if (!names(list, state->pos[i], (size_t)i, 0))
             return 0;
-        if (state->pri[i] > state->b)
+        /* "each station's priority plus its count is at most B"; with it
+         * "each priority is at most B", as no count is below 0 */
+        if ((int32_t)state->pri[i] + (int32_t)state->cnt[i] > state->b)
             return 0;
     }
     /* "for each k from 1 to n at most n-k of them are -k or lower" */
@@ -635,9 +637,9 @@ static int sound_state(const struct list *list, const struct ind_state *state)
         if (low > n - k)
             return 0;
     }
-    /* "entries from n on are 0" */
+    /* "entries from n on are 0", and "counts from n on are zero" */
     for (int i = n; i < IND_STATIONS; i++)
-        if (state->pos[i] != 0 || state->pri[i] != 0)
+        if (state->pos[i] != 0 || state->pri[i] != 0 || state->cnt[i] != 0)
             return 0;
     return 1;
 }
@@ -800,11 +802,16 @@ static uint8_t advance(const struct list *list, struct ind_state *state,
         break;
     }
 
-    /* "it gets the reset, each other ready station loses 1, others stay" */
-    for (size_t i = 0; i < list->n; i++)
-        if (i != station && (turn.ready >> i & 1) != 0)
+    /* "it gets the reset, each other ready station loses 1, others stay";
+     * whoever loses 1 was "ready and passed over" once more */
+    for (size_t i = 0; i < list->n; i++) {
+        if (i != station && (turn.ready >> i & 1) != 0) {
             state->pri[i] = (int16_t)(state->pri[i] - 1);
+            state->cnt[i] = (uint16_t)(state->cnt[i] + 1);
+        }
+    }
     state->pri[station] = reset;
+    state->cnt[station] = 0;              /* "since the station's last pick" */
     state->m = (uint16_t)(state->m + 1);
     return IND_FINE;
 }
@@ -818,7 +825,7 @@ enum kept_part {
     KEPT_VARS = 0,            /* "variable v, four bytes from 4v on" */
     KEPT_POSITIONS = 128,     /* "two bytes from 128 + 2j on" */
     KEPT_PRIORITIES = 144,    /* "two bytes from 144 + 2j on" */
-    KEPT_COUNTS = 160,        /* "160 to 175", zero */
+    KEPT_COUNTS = 160,        /* "two bytes from 160 + 2j on" */
     KEPT_N = 176,
     KEPT_B = 177,
     KEPT_M = 178,             /* "178, 179" */
@@ -844,9 +851,8 @@ static void keep(uint8_t *p, const struct ind_state *state)
         put2(p + KEPT_POSITIONS + 2 * j, state->pos[j]);
         put2(p + KEPT_PRIORITIES + 2 * j,
              (uint16_t)(state->pri[j] + KEPT_HIGHER));
+        put2(p + KEPT_COUNTS + 2 * j, state->cnt[j]);
     }
-    for (size_t i = KEPT_COUNTS; i < KEPT_N; i++)
-        p[i] = 0;
     p[KEPT_N] = state->n;
     p[KEPT_B] = state->b;
     put2(p + KEPT_M, state->m);
@@ -859,8 +865,7 @@ static void keep(uint8_t *p, const struct ind_state *state)
 static int is_kept(const uint8_t *p, struct ind_state *state)
 {
     /* "One in which any of these is not zero is no kept state." */
-    if (!zero_bytes(p, KEPT_COUNTS, KEPT_N)
-        || !zero_bytes(p, KEPT_REST, IND_KEPT_PLACE))
+    if (!zero_bytes(p, KEPT_REST, IND_KEPT_PLACE))
         return 0;
     for (size_t v = 0; v < IND_VARS; v++)
         state->var[v] = low4(p + KEPT_VARS + 4 * v);
@@ -868,6 +873,7 @@ static int is_kept(const uint8_t *p, struct ind_state *state)
         state->pos[j] = low2(p + KEPT_POSITIONS + 2 * j);
         state->pri[j] = (int16_t)(low2(p + KEPT_PRIORITIES + 2 * j)
                                   - KEPT_HIGHER);
+        state->cnt[j] = low2(p + KEPT_COUNTS + 2 * j);
     }
     state->n = p[KEPT_N];
     state->b = p[KEPT_B];
@@ -908,7 +914,7 @@ static uint8_t logged_step(const struct list *list, struct ind_state *state,
 }
 
 /* The state after a start: "It runs the initial part and sets priorities to
- * the resets."  The variables "begin at 0". */
+ * the resets."  The variables "begin at 0", and so do the counts. */
 static struct ind_state begin(const struct list *list, uint8_t b,
                               const uint8_t *resets)
 {
@@ -1314,7 +1320,7 @@ static void put_number(struct text *text, int value)
 }
 
 /* "m, ready mask, in-turn mask, the n priorities, in decimal with single
- * spaces". */
+ * spaces"; and the first n counts "after the priorities". */
 static void put_line(struct text *text, const uint8_t *bytes, size_t len,
                      const struct ind_state *state)
 {
@@ -1328,6 +1334,10 @@ static void put_line(struct text *text, const uint8_t *bytes, size_t len,
     for (size_t i = 0; i < state->n && i < IND_STATIONS; i++) {
         put_char(text, ' ');
         put_number(text, state->pri[i]);
+    }
+    for (size_t i = 0; i < state->n && i < IND_STATIONS; i++) {
+        put_char(text, ' ');
+        put_number(text, state->cnt[i]);
     }
     put_char(text, '\n');
 }

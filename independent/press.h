@@ -69,12 +69,14 @@ enum ind_limit {
 };
 
 /* "A run state holds 32 variables, 8 positions, 8 priorities, n, B (0 to
- * 255) and the number of standing steps m."  Any value may stand in any
- * field; the calls test it. */
+ * 255) and the number of standing steps m."  It "gains eight counts: times
+ * ready and passed over since the station's last pick, or since the start".
+ * Any value may stand in any field; the calls test it. */
 struct ind_state {
     uint32_t var[IND_VARS];
     uint16_t pos[IND_STATIONS];
     int16_t pri[IND_STATIONS];
+    uint16_t cnt[IND_STATIONS];
     uint8_t n;
     uint8_t b;
     uint16_t m;

@@ -53,6 +53,7 @@ static int same_state(const struct ind_state *x, const struct ind_state *y)
     return memcmp(x->var, y->var, sizeof x->var) == 0
         && memcmp(x->pos, y->pos, sizeof x->pos) == 0
         && memcmp(x->pri, y->pri, sizeof x->pri) == 0
+        && memcmp(x->cnt, y->cnt, sizeof x->cnt) == 0
         && x->n == y->n && x->b == y->b && x->m == y->m;
 }
 
@@ -268,13 +269,7 @@ static void test_p9_p10(void)
 
     /* P10 two stations, each WHILE v0 = v0 around SKIP, B = 1, resets 0 and
      * 1. */
-    p.len = 0;
-    for (int i = 0; i < 2; i++) {
-        add_bare(&p, IND_STATION);
-        add(&p, IND_WHILE, 0, 0, 4, 0);
-        add_bare(&p, IND_SKIP);
-        add_bare(&p, IND_OD);
-    }
+    loops(&p, 2);
     b = ind_build(p.bytes, p.len, list, sizeof list);
     CHECK(b.number == IND_FINE && b.count == 8);
     resets[1] = 1;
@@ -285,6 +280,7 @@ static void test_p9_p10(void)
                 4, 100);
     CHECK(r.number == IND_FINE && r.steps == 2);
     CHECK(r.state.pri[0] == 0 && r.state.pri[1] == -1);
+    CHECK(r.state.cnt[0] == 0 && r.state.cnt[1] == 2);
     memcpy(before, log, sizeof log);
     s = ind_step(list, 128, r.state, log, sizeof log, kept, sizeof kept, 0, 0);
     CHECK(s.number == IND_TURN && same_state(&s.state, &r.state));
@@ -292,6 +288,7 @@ static void test_p9_p10(void)
     s = ind_step(list, 128, r.state, log, sizeof log, kept, sizeof kept, 1, 1);
     CHECK(s.number == IND_FINE);
     CHECK(s.state.pri[0] == -1 && s.state.pri[1] == 1);
+    CHECK(s.state.cnt[0] == 1 && s.state.cnt[1] == 0);
     CHECK(log[8] == 1 && log[9] == 1);
 
     /* the same in one run, by the picks' end, by the number, by a refusal */
@@ -324,8 +321,9 @@ static void test_dryer(void)
     static const uint8_t resets[2] = { 0, 0 };
     static const uint8_t start[3] = { 0, 0, 0 };
     static const uint8_t picks[8] = { 0, 0, 1, 0, 255, 0, 255, 0 };
-    static const char want[] = "0 1 1 0 0\n1 2 2 0 0\n2 0 0 0 0\n1 2 2 0 0\n"
-                               "0 1 1 0 0\nend 0\n";
+    static const char want[] = "0 1 1 0 0 0 0\n1 2 2 0 0 0 0\n"
+                               "2 0 0 0 0 0 0\n1 2 2 0 0 0 0\n"
+                               "0 1 1 0 0 0 0\nend 0\n";
     struct ind_build_answer b;
     struct ind_state_answer first, s, t;
     struct ind_lights_answer l;
@@ -400,11 +398,11 @@ static void test_dryer(void)
     len = ind_trace(p.bytes, p.len, NULL, 0, picks, 8, out, sizeof out);
     CHECK(len == 7 && memcmp(out, "end 13\n", 7) == 0);
     len = ind_trace(p.bytes, p.len, start, 3, picks, 7, out, sizeof out);
-    CHECK(len == 16 && memcmp(out, "0 1 1 0 0\nend 1\n", 16) == 0);
+    CHECK(len == 20 && memcmp(out, "0 1 1 0 0 0 0\nend 1\n", 20) == 0);
     len = ind_trace(NULL, 0, NULL, 0, NULL, 0, out, sizeof out);
     CHECK(len == 6 && memcmp(out, "end 1\n", 6) == 0);
     len = ind_trace(p.bytes, p.len, start, 3, picks + 4, 4, out, sizeof out);
-    CHECK(len == 17 && memcmp(out, "0 1 1 0 0\nend 14\n", 17) == 0);
+    CHECK(len == 21 && memcmp(out, "0 1 1 0 0 0 0\nend 14\n", 21) == 0);
 }
 
 /* ------------------------------------------------------------------ */
@@ -424,7 +422,7 @@ static int told(const uint8_t *list, size_t len, struct ind_state state,
 static int traced(const struct sequence *p, const uint8_t *start, size_t slen,
                   const uint8_t *picks, size_t klen, const char *want)
 {
-    uint8_t out[256];
+    uint8_t out[1024];
     size_t len = ind_trace(p->bytes, p->len, start, slen, picks, klen, out,
                            sizeof out);
 
@@ -571,13 +569,16 @@ static void test_ended(void)
 
     /* the trace */
     CHECK(traced(&p, start, 4, end_0, 6,
-                 "0 5 5 0 0 0\n1 4 4 0 0 -1\n2 4 4 0 0 0\nend 16\n"));
+                 "0 5 5 0 0 0 0 0 0\n1 4 4 0 0 -1 0 0 1\n"
+                 "2 4 4 0 0 0 0 0 0\nend 16\n"));
     CHECK(traced(&p, start, 4, wait_1, 6,
-                 "0 5 5 0 0 0\n1 4 4 0 0 -1\n2 4 4 0 0 0\nend 11\n"));
-    CHECK(traced(&p, start, 4, wait_1 + 4, 2, "0 5 5 0 0 0\nend 11\n"));
+                 "0 5 5 0 0 0 0 0 0\n1 4 4 0 0 -1 0 0 1\n"
+                 "2 4 4 0 0 0 0 0 0\nend 11\n"));
+    CHECK(traced(&p, start, 4, wait_1 + 4, 2,
+                 "0 5 5 0 0 0 0 0 0\nend 11\n"));
     CHECK(traced(&p, start, 4, withdrawn, 8,
-                 "0 5 5 0 0 0\n1 4 4 0 0 -1\n0 5 5 0 0 0\n1 4 4 0 0 -1\n"
-                 "end 16\n"));
+                 "0 5 5 0 0 0 0 0 0\n1 4 4 0 0 -1 0 0 1\n"
+                 "0 5 5 0 0 0 0 0 0\n1 4 4 0 0 -1 0 0 1\nend 16\n"));
 
     /* 10 where every station has ended */
     p.len = 0;
@@ -596,9 +597,9 @@ static void test_ended(void)
 
     /* "Dryer": station 1 waits, then is ready, then has ended */
     dryer(&p);
-    CHECK(traced(&p, start, 3, wait_1 + 4, 2, "0 1 1 0 0\nend 11\n"));
+    CHECK(traced(&p, start, 3, wait_1 + 4, 2, "0 1 1 0 0 0 0\nend 11\n"));
     CHECK(traced(&p, start, 3, withdrawn + 4, 4,
-                 "0 1 1 0 0\n1 2 2 0 0\nend 16\n"));
+                 "0 1 1 0 0 0 0\n1 2 2 0 0 0 0\nend 16\n"));
 }
 
 /* The call: each case, each refusal, their order. */
@@ -766,6 +767,7 @@ static void test_foreign_stops(void)
     for (int i = 0; i < 2; i++) {
         CHECK(told(list, sizeof list, s.state, 1, IND_FINE, 0));
         s.state.pri[0] = 0;            /* so that station 1 is in turn */
+        clear_counts(&s.state);
         s = ind_step(list, sizeof list, s.state, log, sizeof log, kept,
                      sizeof kept, 1, 0);
         CHECK(s.number == IND_FINE && s.state.pos[1] == 5);
@@ -1095,9 +1097,10 @@ static void test_full(void)
     CHECK(r.number == IND_FINE && r.state.m == 4096);
 
     len = ind_trace(p.bytes, p.len, start, 2, picks, 8192, out, sizeof out);
-    CHECK(len < sizeof out && memcmp(out + len - 17, "4096 1 1 0\nend 0\n", 17) == 0);
+    CHECK(len < sizeof out
+          && memcmp(out + len - 19, "4096 1 1 0 0\nend 0\n", 19) == 0);
     len = ind_trace(p.bytes, p.len, start, 2, picks, 8194, out, sizeof out);
-    CHECK(len == 14 && memcmp(out, "0 1 1 0\nend 1\n", 14) == 0);
+    CHECK(len == 16 && memcmp(out, "0 1 1 0 0\nend 1\n", 16) == 0);
 }
 
 /* ------------------------------------------------------------------ */
@@ -1521,6 +1524,7 @@ static void test_random(struct rng *g, int rounds)
                 else if ((l.ready >> j & 1) != 0)
                     passed[j]++;
                 CHECK(passed[j] <= (int)b + (int)n - 1);
+                CHECK(t.state.cnt[j] == passed[j]);
             }
 
             /* Withdrawn at once, the step gives back the state; what else the
@@ -2327,6 +2331,9 @@ static void test_random_why(struct rng *g, int rounds)
                     other.pri[j] = (int16_t)((int)below(g, 5) - 3);
                 if (other.pri[j] > b)
                     other.pri[j] = b;
+                if (chance(g, 80))          /* mostly what B allows */
+                    other.cnt[j] = (uint16_t)below(g, 1u + b
+                                                   - (uint32_t)other.pri[j]);
             }
             if (turn % 2 == 1)
                 check_why(list, len, &other);
@@ -2341,6 +2348,497 @@ static void test_random_why(struct rng *g, int rounds)
     }
     CHECK(answered[0] > 1000 && answered[8] > 1000 && answered[10] > 1000
           && answered[11] > 1000 && answered[12] > 1000 && answered[16] > 1000);
+}
+
+/* ------------------------------------------------------------------ */
+/* How often each station was passed over                             */
+/* ------------------------------------------------------------------ */
+
+/* "times ready and passed over since the station's last pick, or since the
+ * start", worked out from the m steps that stand: their picks are in the log,
+ * and `seen` has the state before each. */
+static unsigned passed_over(const uint8_t *list, const uint8_t *log,
+                            const struct ind_state *seen, size_t m,
+                            size_t station)
+{
+    size_t n = seen[0].n;
+    unsigned count = 0;
+
+    while (m-- > 0 && log[2 * (n + m)] != station)
+        count += by_record(list, &seen[m], station) == IND_FINE;
+    return count;
+}
+
+/* Whether the state seen with m steps has the counts that were worked out, and
+ * "counts from n on are zero". */
+static int counts_right(const uint8_t *list, const uint8_t *log,
+                        const struct ind_state *seen, size_t m)
+{
+    size_t n = seen[0].n;
+
+    for (size_t i = 0; i < IND_STATIONS; i++)
+        if (seen[m].cnt[i]
+            != (i < n ? passed_over(list, log, seen, m, i) : 0))
+            return 0;
+    return 1;
+}
+
+/* "each station's priority plus its count is at most B", and no count is above
+ * B+n-1. */
+static int counts_bounded(const struct ind_state *s)
+{
+    for (size_t i = 0; i < s->n; i++)
+        if ((long)s->pri[i] + (long)s->cnt[i] > s->b
+            || s->cnt[i] > s->b + s->n - 1)
+            return 0;
+    return 1;
+}
+
+/* Whether the rules on priorities and counts hold, entry by entry. */
+static int rules_hold(const struct ind_state *s)
+{
+    int low[IND_STATIONS + 1] = { 0 };
+
+    for (int i = 0; i < IND_STATIONS; i++) {
+        long sum = (long)s->pri[i] + (long)s->cnt[i];
+
+        if (i >= s->n ? s->pri[i] != 0 || s->cnt[i] != 0 : sum > s->b)
+            return 0;
+        for (int k = 1; k <= s->n; k++)
+            low[k] += i < s->n && s->pri[i] <= -k;
+    }
+    for (int k = 1; k <= s->n; k++)
+        if (low[k] > s->n - k)
+            return 0;
+    return 1;
+}
+
+/* Whether the first n counts are these. */
+static int counts_are(const struct ind_state *s, const uint16_t *want)
+{
+    for (size_t i = 0; i < IND_STATIONS; i++)
+        if (s->cnt[i] != (i < s->n ? want[i] : 0))
+            return 0;
+    return 1;
+}
+
+/* What every call answers to a state: 0 or 8, by its priorities and counts
+ * alone.  On a sound one a step keeps the rules and counts as it should; the
+ * lights, readiness and why are those without counts. */
+static void check_counts(const uint8_t *list, size_t len,
+                         const struct ind_state *s)
+{
+    static uint8_t log[2 * (IND_STATIONS + 200)];
+    struct ind_state plain = *s;
+    struct ind_lights_answer l = ind_lights(list, len, *s), without;
+    int sound = rules_hold(s);
+    uint8_t number = sound ? IND_FINE : IND_STATE;
+
+    CHECK(l.number == number);
+    if (!sound) {
+        struct ind_state_answer t;
+
+        CHECK(ind_readiness(list, len, *s, 0).number == IND_STATE);
+        CHECK(because(list, len, *s, 9, only(IND_STATE)));
+        t = ind_step(list, len, *s, log, 0, kept, 0, 9, 9);
+        CHECK(t.number == IND_STATE && same_state(&t.state, s));
+        t = ind_undo(list, len, *s, log, 0, kept, 0);
+        CHECK(t.number == IND_STATE && same_state(&t.state, s));
+        CHECK(ind_run(list, len, *s, log, 0, kept, 0, NULL, 0, 0).number
+              == IND_STATE);
+        return;
+    }
+    CHECK(counts_bounded(s));
+    clear_counts(&plain);
+    without = ind_lights(list, len, plain);
+    CHECK(memcmp(&l, &without, sizeof l) == 0);
+    for (uint8_t i = 0; i < s->n; i++) {
+        struct ind_why_answer y = ind_why(list, len, plain, i);
+        struct ind_readiness_answer a = ind_readiness(list, len, plain, i);
+        struct ind_state_answer t = ind_step(list, len, *s, log, sizeof log,
+                                             kept, sizeof kept, i, s->b);
+
+        CHECK(because(list, len, *s, i, y));
+        CHECK(told(list, len, *s, i, a.number, a.place));
+        CHECK(t.number == y.number);
+        for (uint8_t j = 0; j < IND_STATIONS; j++) {
+            unsigned want = s->cnt[j];
+
+            if (t.number == IND_FINE && j == i)
+                want = 0;
+            else if (t.number == IND_FINE)
+                want += l.ready >> j & 1;
+            CHECK(t.state.cnt[j] == want);
+        }
+        CHECK(rules_hold(&t.state) && counts_bounded(&t.state));
+    }
+}
+
+/* Each reason of being counted or not, by steps, by runs, there and back. */
+static void test_counts(void)
+{
+    static const struct {
+        uint8_t pick[2];
+        uint16_t counts[5];
+    } rows[] = {
+        { { 2, 6 }, { 1, 1, 0, 0, 1 } },   /* it ends; 3 waits */
+        { { 0, 0 }, { 0, 2, 0, 0, 2 } },   /* picked; 2 has ended */
+        { { 1, 6 }, { 1, 0, 0, 0, 3 } },   /* to its AWAIT, where it waits */
+        { { 0, 0 }, { 0, 0, 0, 0, 4 } },   /* releases 1: it was not ready */
+        { { 0, 0 }, { 0, 1, 0, 0, 5 } },   /* makes 1 wait: it was ready */
+        { { 0, 0 }, { 0, 1, 0, 0, 6 } },   /* 1 waits and keeps its count */
+        { { 4, 6 }, { 1, 1, 0, 0, 0 } },   /* the others keep theirs */
+        { { 0, 0 }, { 0, 1, 0, 0, 1 } },
+        { { 0, 0 }, { 0, 2, 0, 0, 2 } },
+        { { 0, 0 }, { 0, 2, 0, 0, 3 } },
+        { { 0, 0 }, { 0, 2, 0, 0, 4 } },
+        { { 0, 0 }, { 0, 3, 0, 0, 5 } }
+    };
+    enum { STEPS = sizeof rows / sizeof rows[0] };
+    static const uint16_t zeros[5];
+    static const uint8_t start[6] = { 6, 0, 2, 0, 3, 6 };
+    static struct sequence p;
+    uint8_t list[IND_ITEM * 21], log[2 * (5 + STEPS)], again[sizeof log];
+    uint8_t picks[2 * STEPS + 6] = { 0 };
+    struct ind_state seen[STEPS + 1];
+    struct ind_state_answer s;
+    struct ind_run_answer r;
+    size_t len;
+
+    flickers(&p);
+    len = ind_build(p.bytes, p.len, list, sizeof list).count * 16u;
+    CHECK(len == sizeof list);
+    s = ind_start(list, len, 6, start + 1, 5, log, sizeof log, kept,
+                  sizeof kept);
+    CHECK(s.number == IND_FINE && counts_are(&s.state, zeros));
+    seen[0] = s.state;
+    for (int i = 0; i < STEPS; i++) {
+        memcpy(picks + 2 * i, rows[i].pick, 2);
+        s = ind_step(list, len, s.state, log, sizeof log, kept, sizeof kept,
+                     picks[2 * i], picks[2 * i + 1]);
+        CHECK(s.number == IND_FINE && counts_are(&s.state, rows[i].counts));
+        CHECK(counts_bounded(&s.state));
+        seen[i + 1] = s.state;
+        CHECK(counts_right(list, log, seen, i + 1u));
+        /* refused, it leaves the counts: 16, 11, 12 or 11, 13, 10, 6 */
+        for (int j = 0; j < 6; j++) {
+            static const uint8_t refused_pick[6][2] = {
+                { 2, 0 }, { 3, 0 }, { 1, 7 }, { 0, 7 }, { 5, 0 }, { 0, 0 }
+            };
+            struct ind_state_answer t = ind_step(
+                list, len, s.state, log, j < 5 ? sizeof log : 0, kept,
+                sizeof kept, refused_pick[j][0], refused_pick[j][1]);
+
+            CHECK(t.number != IND_FINE && same_state(&t.state, &s.state));
+        }
+    }
+    /* by a run of so many steps */
+    for (size_t most = 0; most <= STEPS; most++) {
+        r = ind_run(list, len, seen[0], again, sizeof again, kept,
+                    sizeof kept, picks, 2 * STEPS, most);
+        CHECK(r.number == IND_FINE && same_state(&r.state, &seen[most]));
+    }
+    /* back: each count as it was; what the given one's are does not matter */
+    for (int i = STEPS; i > 0; i--) {
+        struct ind_state other = seen[i];
+
+        s = ind_undo(list, len, seen[i], log, sizeof log, kept, sizeof kept);
+        CHECK(s.number == IND_FINE && same_state(&s.state, &seen[i - 1]));
+        for (int j = 0; j < 5; j++)
+            other.cnt[j] = (uint16_t)(6 - other.pri[j]);
+        s = ind_undo(list, len, other, log, sizeof log, kept, sizeof kept);
+        CHECK(s.number == IND_FINE && same_state(&s.state, &seen[i - 1]));
+        clear_counts(&other);
+        s = ind_undo(list, len, other, log, sizeof log, kept, sizeof kept);
+        CHECK(s.number == IND_FINE && same_state(&s.state, &seen[i - 1]));
+    }
+    /* each count at the most that B allows and one above, whatever its station
+     * does */
+    for (int i = 0; i <= STEPS; i++) {
+        for (uint8_t j = 0; j < 5; j++) {
+            for (int over = 0; over <= 1; over++) {
+                struct ind_state other = changed(seen[i], (struct change){
+                    CHANGE_CNT, j, 6 - seen[i].pri[j] + over
+                });
+
+                CHECK(rules_hold(&other) == !over);
+                check_counts(list, len, &other);
+            }
+        }
+    }
+    /* counts that no call made: whoever has ended or waits keeps his */
+    {
+        static const uint16_t many[5] = { 4, 1, 5, 9, 1 };
+        static const uint16_t then[5] = { 0, 1, 5, 9, 2 };
+        struct ind_state other = seen[6];      /* 1 waits, 0 and 4 are tied */
+
+        memcpy(other.cnt, many, sizeof many);
+        other.pri[2] = 1;
+        other.pri[3] = -4;
+        s = ind_step(list, len, other, log, sizeof log, kept, sizeof kept, 0,
+                     0);
+        CHECK(s.number == IND_FINE && counts_are(&s.state, then));
+    }
+
+    /* the trace: counts behind the priorities */
+    picks[2 * 7] = 255;
+    CHECK(traced(&p, start, 6, picks, 2 * 8,
+                 "0 23 5 0 2 0 3 6 0 0 0 0 0\n"
+                 "1 19 1 -1 1 6 3 5 1 1 0 0 1\n"
+                 "2 19 3 0 0 6 3 4 0 2 0 0 2\n"
+                 "3 17 1 -1 6 6 3 3 1 0 0 0 3\n"
+                 "4 19 1 0 6 6 3 2 0 0 0 0 4\n"
+                 "5 17 1 0 5 6 3 1 0 1 0 0 5\n"
+                 "6 17 17 0 5 6 3 0 0 1 0 0 6\n"
+                 "7 17 1 -1 5 6 3 6 1 1 0 0 0\n"
+                 "6 17 17 0 5 6 3 0 0 1 0 0 6\n"
+                 "end 0\n"));
+}
+
+/* The longest wait for every n and B: B+n-1, and no count before is above
+ * it. */
+static void test_longest(void)
+{
+    static struct sequence p;
+    static struct ind_state seen[270];
+    static uint8_t list[IND_ITEM * 40], log[2 * 280], picks[2 * 270];
+    static uint8_t out[40000];
+    static const char last[] = "262 255 128 -6 -5 -4 -3 -2 -1 0 -7 "
+                               "6 5 4 3 2 1 0 262\nend 0\n";
+    uint8_t start[9];
+    size_t len, count;
+
+    for (size_t n = 1; n <= 8; n++) {
+        loops(&p, n);
+        len = ind_build(p.bytes, p.len, list, sizeof list).count * 16u;
+        for (unsigned b = 0; b < 256; b++) {
+            struct ind_state_answer s;
+            struct ind_run_answer r;
+            unsigned most = n == 1 ? 0 : b + (unsigned)n - 1;
+
+            count = longest_wait(n, (uint8_t)b, start, picks);
+            s = ind_start(list, len, (uint8_t)b, start + 1, n, log, sizeof log,
+                          kept, sizeof kept);
+            r = ind_run(list, len, s.state, log, sizeof log, kept, sizeof kept,
+                        picks, 2 * (b + n - 1), SIZE_MAX);
+            CHECK(r.number == IND_FINE && r.steps == b + n - 1);
+            CHECK(r.state.cnt[n - 1] == most && counts_bounded(&r.state));
+            r = ind_run(list, len, r.state, log, sizeof log, kept, sizeof kept,
+                        picks + 2 * (b + n - 1), 2 * (count - (b + n - 1)),
+                        SIZE_MAX);
+            CHECK(r.number == IND_FINE && r.state.cnt[n - 1] == 0);
+            if (b != 0 && b != 9 && b != 255)
+                continue;
+            /* step by step, and each withdrawn */
+            seen[0] = s.state;
+            for (size_t m = 0; m < count; m++) {
+                s = ind_step(list, len, s.state, log, sizeof log, kept,
+                             sizeof kept, picks[2 * m], picks[2 * m + 1]);
+                CHECK(s.number == IND_FINE && counts_bounded(&s.state));
+                seen[m + 1] = s.state;
+                CHECK(counts_right(list, log, seen, m + 1));
+                CHECK(s.state.cnt[n - 1] <= most);
+            }
+            CHECK(same_state(&s.state, &r.state));
+            for (size_t m = count; m > 0; m--) {
+                s = ind_undo(list, len, s.state, log, sizeof log, kept,
+                             sizeof kept);
+                CHECK(s.number == IND_FINE
+                      && same_state(&s.state, &seen[m - 1]));
+            }
+        }
+    }
+
+    /* n = 8, B = 255: the trace's last column */
+    count = ind_trace(p.bytes, p.len, start, 9, picks, 2 * 262, out,
+                      sizeof out);
+    CHECK(count < sizeof out && count > sizeof last
+          && memcmp(out + count - (sizeof last - 1), last, sizeof last - 1)
+             == 0);
+}
+
+/* n stations with every priority from -n to B+1 and every count to B+n: sound
+ * just where the rules hold, and then no count is above B+n-1, which is met. */
+static void test_counts_every(uint8_t n, uint8_t b)
+{
+    static struct sequence p;
+    static uint8_t list[IND_ITEM * 40];
+    uint8_t log[16];
+    struct ind_state first;
+    unsigned priorities = 2u + n + b, counts = 1u + n + b, all = 1;
+    unsigned highest = 0;
+    size_t len;
+
+    loops(&p, n);
+    len = ind_build(p.bytes, p.len, list, sizeof list).count * 16u;
+    first = ind_start(list, len, b, (const uint8_t[8]){ 0 }, n, log,
+                      sizeof log, kept, sizeof kept).state;
+    for (int i = 0; i < n; i++)
+        all *= priorities * counts;
+    for (unsigned i = 0; i < all; i++) {
+        struct ind_state s = first;
+        unsigned rest = i;
+
+        for (int j = 0; j < n; j++) {
+            s.pri[j] = (int16_t)((int)(rest % priorities) - n);
+            rest /= priorities;
+            s.cnt[j] = (uint16_t)(rest % counts);
+            rest /= counts;
+        }
+        check_counts(list, len, &s);
+        for (int j = 0; j < n; j++)
+            if (rules_hold(&s) && s.cnt[j] > highest)
+                highest = s.cnt[j];
+    }
+    CHECK(highest == b + n - 1u);
+}
+
+/* Every count that 16 bits hold, beside priorities from the lowest that is
+ * sound to the highest that 16 bits hold; counts from n on. */
+static void test_counts_wide(void)
+{
+    static const int pri[] = { -32768, -32767, -256, -8, -7, -6, -1, 0, 1, 5,
+                               254, 255, 256, 32766, 32767 };
+    static struct sequence p;
+    static uint8_t list[IND_ITEM * 40];
+    uint8_t log[16];
+
+    for (uint8_t n = 1; n <= 8; n = (uint8_t)(n + 7)) {
+        size_t len;
+        struct ind_state s;
+
+        loops(&p, n);
+        len = ind_build(p.bytes, p.len, list, sizeof list).count * 16u;
+        for (unsigned b = 0; b < 256; b += b == 0 ? 5 : 250) {
+            s = ind_start(list, len, (uint8_t)b, (const uint8_t[8]){ 0 }, n,
+                          log, sizeof log, kept, sizeof kept).state;
+            for (size_t k = 0; k < sizeof pri / sizeof pri[0]; k++) {
+                size_t i = k % n;
+
+                for (unsigned count = 0; count < 65536; count++) {
+                    s.pri[i] = (int16_t)pri[k];
+                    s.cnt[i] = (uint16_t)count;
+                    CHECK((ind_lights(list, len, s).number == IND_FINE)
+                          == rules_hold(&s));
+                }
+                s.pri[i] = 0;
+                s.cnt[i] = 0;
+            }
+        }
+    }
+    for (uint8_t n = 1; n < 8; n++) {
+        size_t len;
+        struct ind_state s;
+
+        loops(&p, n);
+        len = ind_build(p.bytes, p.len, list, sizeof list).count * 16u;
+        s = ind_start(list, len, 255, (const uint8_t[8]){ 0 }, n, log,
+                      sizeof log, kept, sizeof kept).state;
+        for (unsigned i = n; i < 8; i++) {
+            for (unsigned bit = 0; bit < 16; bit++) {
+                s.cnt[i] = (uint16_t)(1u << bit);
+                check_counts(list, len, &s);
+            }
+            s.cnt[i] = 0;
+        }
+        check_counts(list, len, &s);
+    }
+}
+
+/* 8 by the counts and where it comes in each call's order. */
+static void test_counts_refused(void)
+{
+    static struct sequence p;
+    static const uint8_t zeros[8];
+    static const uint8_t picks[3] = { 0, 0, 0 };
+    uint8_t list[IND_ITEM * 8], log[16];
+    struct ind_state_answer s;
+    size_t len = sizeof list;
+
+    loops(&p, 2);
+    CHECK(ind_build(p.bytes, p.len, list, len).count == 8);
+    s = ind_start(list, len, 3, zeros, 2, log, sizeof log, kept, sizeof kept);
+    for (int i = 0; i < 4; i++) {
+        static const struct change unsound[4] = {
+            { CHANGE_CNT, 0, 4 }, { CHANGE_CNT, 1, 65535 },
+            { CHANGE_CNT, 2, 1 }, { CHANGE_CNT, 7, 256 }
+        };
+        struct ind_state u = changed(s.state, unsound[i]);
+
+        check_counts(list, len, &u);
+        /* 7 before it, and RUN's 1 */
+        CHECK(ind_lights(list, len - 1, u).number == IND_LIST);
+        CHECK(told(list, len - 1, u, 0, IND_LIST, 0));
+        CHECK(because(list, len - 1, u, 0, only(IND_LIST)));
+        CHECK(ind_step(list, len - 1, u, log, sizeof log, kept, sizeof kept,
+                       0, 0).number == IND_LIST);
+        CHECK(ind_undo(list, len - 1, u, log, sizeof log, kept,
+                       sizeof kept).number == IND_LIST);
+        CHECK(ind_run(list, len - 1, u, log, sizeof log, kept, sizeof kept,
+                      picks, 2, 1).number == IND_LIST);
+        CHECK(ind_run(list, len, u, log, sizeof log, kept, sizeof kept, picks,
+                      3, 1).number == IND_LENGTH);
+        /* 9, 6, 10 and 14 behind it */
+        CHECK(ind_step(list, len, u, log, sizeof log, kept, sizeof kept, 0,
+                       0).number == IND_STATE);
+        u.m = 4096;
+        CHECK(ind_step(list, len, u, log, 0, kept, 0, 9, 9).number
+              == IND_STATE);
+        CHECK(ind_run(list, len, u, log, 0, kept, 0, picks, 2, 1).number
+              == IND_STATE);
+        CHECK(told(list, len, u, 9, IND_STATE, 0));
+    }
+    /* just sound: 3 with a priority of 0, 4 with one of -1 */
+    for (int i = 0; i < 2; i++) {
+        struct ind_state u = s.state;
+
+        u.pri[1] = (int16_t)-i;
+        u.cnt[1] = (uint16_t)(3 + i);
+        check_counts(list, len, &u);
+        CHECK(ind_lights(list, len, u).number == IND_FINE);
+        u.cnt[1]++;
+        check_counts(list, len, &u);
+        CHECK(ind_lights(list, len, u).number == IND_STATE);
+    }
+}
+
+/* Random lists, the built and the scrambled: after each step and each undo the
+ * counts are those worked out from the steps then standing. */
+static void test_counted_histories(struct rng *g, int rounds)
+{
+    static uint8_t list[IND_ITEM * IND_MAX_ITEMS], log[400];
+    static struct ind_state seen[200];
+    unsigned long withdrawn = 0, kept_one = 0, cleared = 0;
+
+    for (int round = 0; round < rounds; round++) {
+        uint8_t b = chance(g, 80) ? (uint8_t)below(g, 6) : 255;
+        size_t size = 100 + below(g, 400);
+        struct ind_state_answer s;
+        size_t len = start_random(g, size, b, list, &s, log, sizeof log);
+
+        seen[0] = s.state;
+        for (int turn = 0; turn < 120; turn++) {
+            size_t i = below(g, 8);
+            struct ind_state before = s.state;
+
+            s = step_or_undo(g, list, len, s.state, log, sizeof log, i);
+            if (s.state.m < before.m) {
+                withdrawn++;
+                CHECK(same_state(&s.state, &seen[s.state.m]));
+            }
+            seen[s.state.m] = s.state;
+            CHECK(counts_right(list, log, seen, s.state.m));
+            CHECK(counts_bounded(&s.state) && rules_hold(&s.state));
+            for (size_t j = 0; j < s.state.n && s.state.m > before.m; j++) {
+                kept_one += before.cnt[j] > 0
+                         && s.state.cnt[j] == before.cnt[j];
+                cleared += before.cnt[j] > 0 && s.state.cnt[j] == 0;
+            }
+            if (turn % 8 == 0)
+                check_counts(list, len, &s.state);
+        }
+    }
+    CHECK(withdrawn > 5000 && kept_one > 200 && cleared > 5000);
 }
 
 /* ------------------------------------------------------------------ */
@@ -2377,6 +2875,8 @@ static void encoded(const struct ind_state *s, uint8_t out[IND_KEPT_PLACE])
         out[129 + 2 * j] = (uint8_t)(s->pos[j] / 256);
         out[144 + 2 * j] = (uint8_t)(higher % 256);
         out[145 + 2 * j] = (uint8_t)(higher / 256);
+        out[160 + 2 * j] = (uint8_t)(s->cnt[j] % 256);
+        out[161 + 2 * j] = (uint8_t)(s->cnt[j] / 256);
     }
     out[176] = s->n;
     out[177] = s->b;
@@ -2398,6 +2898,7 @@ static struct ind_state decoded(const uint8_t *p)
     for (int j = 0; j < 8; j++) {
         s.pos[j] = (uint16_t)(p[128 + 2 * j] + 256 * p[129 + 2 * j]);
         s.pri[j] = (int16_t)(p[144 + 2 * j] + 256 * p[145 + 2 * j] - 32768);
+        s.cnt[j] = (uint16_t)(p[160 + 2 * j] + 256 * p[161 + 2 * j]);
     }
     s.n = p[176];
     s.b = p[177];
@@ -2460,8 +2961,8 @@ static struct ind_state_answer defined_undo(const uint8_t *list, size_t len,
         const uint8_t *p = buf + 184 * (q - 1);
 
         from = decoded(p);
-        for (int i = 160; i < 184; i++)
-            if ((i < 176 || i > 179) && p[i] != 0)
+        for (int i = 180; i < 184; i++)
+            if (p[i] != 0)
                 answer.number = IND_STATE;
         if (ind_lights(list, len, from).number != IND_FINE
             || from.m != 64 * q || from.b != state.b)
@@ -2588,6 +3089,7 @@ static void reached(struct panel *x)
     if (x->state.m % 64 == 0)
         encoded(&x->state, kept_at(x->want, x->state.m / 64));
     CHECK(memcmp(x->kept, x->want, sizeof x->kept) == 0);
+    CHECK(counts_right(x->list, x->log, x->seen, x->state.m));
 }
 
 /* Takes a good pick by a step. */
@@ -2700,6 +3202,7 @@ static void test_kept_bytes(void)
     u.var[31] = 0x80706050;
     u.pos[0] = 2;
     u.pos[1] = 3;
+    u.cnt[1] = 8;
     u.n = 2;
     u.b = 9;
     memcpy(want, "\x01\x02\x03\x04", 4);
@@ -2710,6 +3213,7 @@ static void test_kept_bytes(void)
     memcpy(want + 144, "\x09\x80\xFF\x7F", 4);    /* "-1 the bytes 255, 127" */
     for (int i = 149; i < 160; i += 2)
         want[i] = 128;                            /* "0 is the bytes 0, 128" */
+    want[162] = 9;                                /* one more than 8 */
     want[176] = 2;
     want[177] = 9;
 
@@ -2747,11 +3251,25 @@ static void test_kept_bytes(void)
     CHECK(s.number == IND_FINE && s.state.pos[0] == 1023);
     CHECK(buf[128] == 255 && buf[129] == 3 && buf[130] == 0);
 
+    /* a count of two bytes */
+    u.b = 255;
+    u.m = 63;
+    u.cnt[0] = 255;
+    for (unsigned count = 254; count <= 256; count++) {
+        u.cnt[1] = (uint16_t)(count - 1);
+        s = ind_step(list, sizeof list, u, log, sizeof log, buf, sizeof buf, 0,
+                     9);
+        CHECK(s.number == IND_FINE && s.state.cnt[1] == count);
+        CHECK(buf[160] == 0 && buf[161] == 0);
+        CHECK(buf[162] == count % 256 && buf[163] == count / 256);
+    }
+
     /* what is encoded is decoded */
     for (int pri = -32768; pri <= 32767; pri++) {
         struct ind_state t;
 
         u.pri[pri & 7] = (int16_t)pri;
+        u.cnt[pri & 7] = (uint16_t)(7 * pri & 65535);
         encoded(&u, want);
         t = decoded(want);
         CHECK(same_state(&t, &u));
@@ -2953,6 +3471,7 @@ static void test_who_keeps(struct rng *g)
                  sizeof x.kept, pick[0], 4);
     CHECK(s.number == IND_RESET);
     waits = x.state;
+    clear_counts(&waits);
     for (int i = 0; i < 4; i++) {           /* 12 and 11 by one of them */
         waits.pri[i] = (int16_t)(i == 1 ? -3 : i == 3 ? 3 : 0);
         waits.pos[i] = x.seen[0].pos[i];
@@ -3180,7 +3699,7 @@ static void test_kept_room(struct rng *g)
 static void test_kept_damage(struct rng *g)
 {
     static struct panel x;
-    unsigned long followed = 0, refused_by = 0, not_replayed = 0;
+    unsigned long followed = 0, refused_by = 0, not_replayed = 0, counts = 0;
 
     for (uint8_t n = 1; n <= 8; n++) {
         static const uint16_t steps[6] = { 64, 65, 66, 128, 129, 140 };
@@ -3222,10 +3741,11 @@ static void test_kept_damage(struct rng *g)
                           && same_state(&a.state, &d.state));
                     if (in < 128)           /* "the variables are free" */
                         CHECK(a.number != IND_STATE);
-                    if (in >= 160)          /* zeros, n, B, m */
+                    if (in >= 176)          /* n, B, m, zeros */
                         CHECK(a.number == IND_STATE);
-                    if (in >= 128 && in < 160 && in % 16 >= 2u * n)
+                    if (in >= 128 && in < 176 && in % 16 >= 2u * n)
                         CHECK(a.number == IND_STATE);
+                    counts += in >= 160 && in < 176 && a.number == IND_FINE;
                     followed += a.number == IND_FINE;
                     refused_by += a.number == IND_STATE;
                     not_replayed += a.number == IND_LOG;
@@ -3240,7 +3760,8 @@ static void test_kept_damage(struct rng *g)
             memcpy(x.kept, x.want, sizeof x.kept);
         }
     }
-    CHECK(followed > 3000 && refused_by > 5000 && not_replayed > 100);
+    CHECK(followed > 3000 && refused_by > 5000 && not_replayed > 50);
+    CHECK(counts > 100);
 
     /* n, B and m by themselves, each in a state that is otherwise sound */
     set_up(&x, 3);
@@ -3255,6 +3776,7 @@ static void test_kept_damage(struct rng *g)
             s.b = 4;                        /* all that B allows */
             for (int j = 0; j < 3; j++)
                 s.pri[j] = 0;
+            clear_counts(&s);
             break;
         case 1:
             s.b = 6;
@@ -3344,16 +3866,25 @@ static void test_kept_followed(struct rng *g)
         }
 
         /* any sound one: variables of any bytes, priorities from the lowest
-         * on */
+         * on, counts of any size that they allow */
         s = y.seen[128];
         for (int v = 0; v < 32; v++)
             s.var[v] = draw(g) | 0x01010101;
         for (int i = 0; i < n; i++)
             s.pri[i] = (int16_t)(i == n - 1 ? 7 : -i);
+        for (int i = 0; i < n; i++)
+            s.cnt[i] = (uint16_t)below(g, 8u - (uint32_t)s.pri[i]);
         encoded(&s, kept_at(x.kept, 2));
         a = ind_undo(x.list, x.len, x.seen[129], x.log, sizeof x.log, x.kept,
                      sizeof x.kept);
         CHECK(a.number == IND_FINE && same_state(&a.state, &s));
+        for (uint16_t over = 0; over <= 1; over++) {
+            s.cnt[n / 2] = (uint16_t)(7 - s.pri[n / 2] + over);
+            encoded(&s, kept_at(x.kept, 2));
+            CHECK(undone(&x, &x.seen[129], sizeof x.log, sizeof x.kept,
+                         over ? IND_STATE : IND_FINE));
+        }
+        s.cnt[n / 2] = 0;
         s.pri[0] = -n;
         encoded(&s, kept_at(x.kept, 2));
         CHECK(undone(&x, &x.seen[129], sizeof x.log, sizeof x.kept,
@@ -3478,8 +4009,8 @@ static void test_kept_trace(struct rng *g)
 {
     static struct panel x;
     static struct sequence p;
-    static uint8_t picks[8192], out[200000];
-    static char want[200000];
+    static uint8_t picks[8192], out[400000];
+    static char want[400000];
 
     for (uint8_t n = 1; n <= 8; n = (uint8_t)(n + 1)) {
         uint8_t start[9] = { 3 };
@@ -3496,6 +4027,8 @@ static void test_kept_trace(struct rng *g)
                                    l.in_turn);
             for (uint8_t i = 0; i < n; i++)
                 len += (size_t)sprintf(want + len, " %d", x.state.pri[i]);
+            for (uint8_t i = 0; i < n; i++)
+                len += (size_t)sprintf(want + len, " %d", x.state.cnt[i]);
             len += (size_t)sprintf(want + len, "\n");
             if (count == 4095)
                 break;
@@ -3527,7 +4060,7 @@ static void test_kept_trace(struct rng *g)
 
 int main(void)
 {
-    struct rng g = { 1 }, h = { 2 }, k = { 3 }, y = { 4 };
+    struct rng g = { 1 }, h = { 2 }, k = { 3 }, y = { 4 }, c = { 5 };
 
     memset(kept, 0xC3, sizeof kept);
     test_check_cases();
@@ -3553,6 +4086,16 @@ int main(void)
     test_why_every(3, 1, -3, 2, 4);
     test_why_every(4, 0, -3, 0, 3);
     test_random_why(&y, 200);
+    test_counts();
+    test_longest();
+    for (uint8_t b = 0; b < 4; b++)
+        test_counts_every(1, b);
+    for (uint8_t b = 0; b < 3; b++)
+        test_counts_every(2, b);
+    test_counts_every(3, 0);
+    test_counts_wide();
+    test_counts_refused();
+    test_counted_histories(&c, 300);
     test_kept_bytes();
     test_deep(&k);
     test_another_way(&k);

@@ -2,10 +2,11 @@
  * A panel's loop over the press calls. It builds the "Dryer" sequence, starts a run, and takes keys from standard input
  * until it ends: two bytes each, a station and its reset to pick it, or 255 and 0 to take the last step back. It prints
  * a line for the start and for each key: 0 or the number of the refusal, the standing steps, variable 0, the
- * priorities, and the lights of the state that is there: which stations are ready, in turn, waiting and ended, and
- * which read and write variable 0 next. While station 1 waits it is lit as reading it and not as writing it; once
- * released, as both. Then, station by station and in words, whether it is ready, has ended, or waits and at which record.
- * Where a pick is refused, a line more says in words why the station was not picked, or what else refused it.
+ * priorities, how often each station was passed over, and the lights of the state that is there: which stations are
+ * ready, in turn, waiting and ended, and which read and write variable 0 next. While station 1 waits it is lit as
+ * reading it and not as writing it; once released, as both. Then, station by station and in words, whether it is ready,
+ * has ended, or waits and at which record. Where a pick is refused, a line more says in words why the station was not
+ * picked, or what else refused it.
  */
 #include "press.h"
 #include <stdio.h>
@@ -39,6 +40,8 @@ static void show(unsigned number, const press_state *state)
     printf("%u %u %lu", number, (unsigned)state->m, (unsigned long)state->vars[0]);
     for (unsigned j = 0; j < state->n; j++)
         printf(" %d", (int)state->priorities[j]);
+    for (unsigned j = 0; j < state->n; j++)
+        printf(" %u", (unsigned)state->counts[j]);
     const press_lit lit = press_lights(*state, list, list_len);
     printf(" | %u %u %u %u", (unsigned)lit.ready, (unsigned)lit.in_turn, (unsigned)lit.waiting, (unsigned)lit.ended);
     printf(" | %u %u |", (unsigned)lit.rows[0][0], (unsigned)lit.rows[1][0]);

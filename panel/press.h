@@ -91,13 +91,16 @@ press_built press_build(const uint8_t *file, size_t file_len, uint8_t *list, siz
 /* ---- a run */
 
 /*
- * What a run has reached: the variables; each station's position, a record number of the list, and its priority, both 0
- * from station n on; the number of stations n, the largest reset b, and the number of standing steps m.
+ * What a run has reached: the variables; each station's position, a record number of the list, its priority, and its
+ * count, the times it was ready and passed over since its last pick or since the start, all three 0 from station n on;
+ * the number of stations n, the largest reset b, and the number of standing steps m. A station's priority plus its
+ * count is at most b, and no count is above b + n - 1.
  */
 typedef struct press_state {
     uint32_t vars[32];
     uint16_t positions[8];
     int16_t priorities[8];
+    uint16_t counts[8];
     uint8_t n;
     uint8_t b;
     uint16_t m;
@@ -121,10 +124,10 @@ typedef struct press_ran {
 
 /*
  * Starts a run, with a reset for each station and b the largest reset from then on. It answers the state with no steps,
- * the initial part run and the priorities set to the resets, and writes the start records to the front of the log, two
- * bytes for each station, its number and its reset; the bytes after them stay. Of kept it looks at the length alone.
- * Refused (PRESS_LIST, PRESS_RESET, PRESS_ROOM for the log, PRESS_ROOM for kept, in this order), it answers zeros and
- * leaves the log as it was.
+ * the initial part run, the priorities set to the resets and the counts 0, and writes the start records to the front of
+ * the log, two bytes for each station, its number and its reset; the bytes after them stay. Of kept it looks at the
+ * length alone. Refused (PRESS_LIST, PRESS_RESET, PRESS_ROOM for the log, PRESS_ROOM for kept, in this order), it
+ * answers zeros and leaves the log as it was.
  */
 press_outcome press_start(const uint8_t *list, size_t list_len, uint8_t b, const uint8_t *resets, size_t resets_len,
                           uint8_t *log, size_t log_len, const uint8_t *kept, size_t kept_len);

@@ -15,7 +15,7 @@ use Rattle.rules.specs.Records.{Pick}
 use Rattle.rules.specs.Check.{check}
 use Rattle.rules.specs.Build.{Built, bytes-of, list-records, build}
 use Rattle.rules.specs.List.{stations}
-use Rattle.rules.specs.State.{State, position, priority}
+use Rattle.rules.specs.State.{State, position, priority, count}
 use Rattle.rules.specs.Start.{started}
 use Rattle.rules.specs.Step.{stepped}
 use Rattle.rules.specs.Undo.{undo-tests, undo}
@@ -25,11 +25,11 @@ use Rattle.reading.specs.Accepted.{Accepted}
 use Rattle.built.proofs.Bytes.{length-bytes-of}
 use Rattle.laws.proofs.Sound.{sound-means}
 use Rattle.laws.proofs.Sound.{few-stations}
-use Rattle.fair.proofs.Begun.{start-priority, start-position, no-position, start-sound}
+use Rattle.fair.proofs.Begun.{start-priority, start-count, start-position, no-position, start-sound}
 use Rattle.fair.proofs.Charge.{rest-kept}
 use Rattle.fair.proofs.Taken.{step-taken}
 use Rattle.fair.proofs.Held.{step-held}
-use Rattle.fair.proofs.Relation.{step-fair, update-only}
+use Rattle.fair.proofs.Relation.{step-fair, step-counts, update-only, counted-only}
 use Rattle.laws.proofs.Passed.{start-passed}
 use Rattle.laws.proofs.Answers.{build-number, undo-number, start-number, start-can, start-state, start-written, step-state, step-written}
 use Rattle.demands.specs.Does.{Lays, BuildLays, StartTaken, Begins, StartBegins, Does, StepDoes, UndoReplays}
@@ -61,10 +61,10 @@ eight-same : {A : Type 0} (d : A) (xs ys : List A) → length xs ≡ max-station
     → ((j : ℕ) → getD xs j d ≡ getD ys j d) → xs ≡ ys
 eight-same d xs ys m n same = ext-getD d xs ys (m ∙ sym n) (λ j l. same j)
 
-states-same : (s t : State) → s .vars ≡ t .vars → s .positions ≡ t .positions → s .priorities ≡ t .priorities → s .n ≡ t .n
-    → s .b ≡ t .b → s .m ≡ t .m → s ≡ t
-states-same s t vars positions priorities n b m =
-    λ i. record { vars = vars i; positions = positions i; priorities = priorities i; n = n i; b = b i; m = m i }
+states-same : (s t : State) → s .vars ≡ t .vars → s .positions ≡ t .positions → s .priorities ≡ t .priorities → s .counts ≡ t .counts
+    → s .n ≡ t .n → s .b ≡ t .b → s .m ≡ t .m → s ≡ t
+states-same s t vars positions priorities counts n b m =
+    λ i. record { vars = vars i; positions = positions i; priorities = priorities i; counts = counts i; n = n i; b = b i; m = m i }
 
 -- what each place below n is, and what each from n on is, is what every place is
 each-place : {A : Type 0} (n : ℕ) (x y : ℕ → A) → ((j : ℕ) → j < n → x j ≡ y j) → ((j : ℕ) → n ≤ j → x j ≡ y j) → (j : ℕ) → x j ≡ y j
@@ -93,6 +93,7 @@ start-begins list b resets lent e =
           rw state (no-position list b resets j l),
           rw state (start-priority list b resets j ∙ ap pos (past j l)),
         );
+        counts = λ j. rw state (start-count list b resets j);
         n-is = rw state;
         b-is = rw state;
         m-is = rw state;
@@ -109,6 +110,7 @@ begins-only {list} {b} {resets} {s} {t} x y =
     (eight-same (pos 0) (s .priorities) (t .priorities) (x .held .priorities) (y .held .priorities)
     (each-place (stations list) (priority s) (priority t) (λ j l. x .priorities j l ∙ sym (y .priorities j l))
     (λ j l. x .rest j l .1 ∙ sym (y .rest j l .1))))
+    (eight-same 0 (s .counts) (t .counts) (x .held .counts) (y .held .counts) (λ j. x .counts j ∙ sym (y .counts j)))
     (x .n-is ∙ sym (y .n-is)) (x .b-is ∙ sym (y .b-is)) (x .m-is ∙ sym (y .m-is))
 
 -- STEP
@@ -129,6 +131,7 @@ step-does list s lent p held e =
             (λ y. rw (y, eqb-true j (p .station) y) (getD-set-same (s .positions) (p .station) _ 0 there))
             (λ y. rw y (getD-set-other (s .positions) (p .station) j _ 0 (eqb-false j (p .station) y))));
         priorities = f .1;
+        counts = step-counts list s lent p held e;
         rest = λ j l. rw t (rest-kept list s p j l);
         n-is = rw t;
         b-is = rw t;
@@ -142,7 +145,9 @@ does-only {list} {s} {p} {t} {u} x y =
     states-same t u (x .vars ∙ sym (y .vars))
     (eight-same 0 (t .positions) (u .positions) (x .held .positions) (y .held .positions) (λ j. x .positions j ∙ sym (y .positions j)))
     (eight-same (pos 0) (t .priorities) (u .priorities) (x .held .priorities) (y .held .priorities)
-    (each-place (s .n) (priority t) (priority u) (update-only _ _ _ _ _ _ _ _ (x .priorities) (y .priorities)) (λ j l. x .rest j l ∙ sym (y .rest j l))))
+    (each-place (s .n) (priority t) (priority u) (update-only _ _ _ _ _ _ _ _ (x .priorities) (y .priorities)) (λ j l. x .rest j l .0 ∙ sym (y .rest j l .0))))
+    (eight-same 0 (t .counts) (u .counts) (x .held .counts) (y .held .counts)
+    (each-place (s .n) (count t) (count u) (counted-only _ _ _ _ _ _ (x .counts) (y .counts)) (λ j l. x .rest j l .1 ∙ sym (y .rest j l .1))))
     (x .n-is ∙ sym (y .n-is)) (x .b-is ∙ sym (y .b-is)) (x .m-is ∙ sym (y .m-is))
 
 -- UNDO

@@ -1,8 +1,8 @@
 -- The three demands, of any seven calls. proofs/Whole.antt shows them of the rules' calls, and of any that equal those on all plain lists and
 -- states. The code's calls are given bytes, and states of its own types; there its promises say that they equal the rules', and so do calls
 -- that are the code's there and the rules' elsewhere. proofs/Only.antt shows the converse: calls that meet the first two demands answer as the
--- rules do, in every state of 32 variables, 8 positions and 8 priorities. A clause that does not name the calls says what a word of the rules
--- means.
+-- rules do, in every state of 32 variables, 8 positions, 8 priorities and 8 counts. A clause that does not name the calls says what a word of
+-- the rules means.
 use mathlib.Core.List.{List}
 use Prim.Native.Nat.{ℕ, _<_}
 use lib.ListN.{getD}
@@ -77,7 +77,8 @@ pub record Demand2 (bench : Seven) : Type 0 where
 
 -- 3. "After any calls, refusals and undos among them, for each k from 1 to n at most n-k stations have priority -k or lower. In the steps
 -- then standing, no station is ready and passed over more than B+n-1 times from the start, or from one of its picks, to its next pick or to
--- now." Of steps that are demand 2's: an idle program's bounds hold too, since nothing stands
+-- now." Of steps that are demand 2's: an idle program's bounds hold too, since nothing stands. Document 02, T-05, with it: each count "equals the
+-- count worked out from the standing steps", and "none exceeds B+n-1"
 pub record Demand3 (bench : Seven) : Type 0 where
   pub over : Demand2 bench
   pub bounds : PassedOver bench

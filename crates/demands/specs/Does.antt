@@ -12,7 +12,7 @@ use Rattle.rules.specs.Names.{variables}
 use Rattle.rules.specs.Records.{list-record-at, Pick}
 use Rattle.rules.specs.Build.{Built, list-records}
 use Rattle.rules.specs.List.{stations, initials}
-use Rattle.rules.specs.State.{State, position, priority}
+use Rattle.rules.specs.State.{State, position, priority, count}
 use Rattle.rules.specs.Lent.{Lent}
 use Rattle.rules.specs.Start.{initial-run, with-starts}
 use Rattle.rules.specs.Step.{with-step}
@@ -23,7 +23,7 @@ use Rattle.rules.specs.Calls.{Seven}
 use Rattle.laws.specs.Passed.{CanStart}
 use Rattle.reading.specs.Accepted.{Accepted}
 use Rattle.built.specs.Built.{built}
-use Rattle.fair.specs.Fair.{Sch, Update}
+use Rattle.fair.specs.Fair.{Sch, Update, Counted}
 use Rattle.fair.specs.Sound.{Held}
 
 -- BUILD takes a file that check accepts, and leaves its list in the front of the buffer; "bytes past the list stay"
@@ -40,14 +40,15 @@ BuildLays bench = (file buffer : List ℕ) → bench .build file buffer .number 
 abbrev pub StartTaken : Seven → Type 0
 StartTaken bench = (list : List ℕ) (b : ℕ) (resets : List ℕ) (lent : Lent) → (bench .start list b resets lent .number ≡ 0) ↔ CanStart list b resets lent
 
--- "It runs the initial part and sets priorities to the resets"; variables begin at 0, a station at its INIT's t1; the B is the one
--- given, and no step stands
+-- "It runs the initial part and sets priorities to the resets"; variables begin at 0, a station at its INIT's t1; none was passed over; the B is
+-- the one given, and no step stands
 pub record Begins (list : List ℕ) (b : ℕ) (resets : List ℕ) (t : State) : Type 0 where
   pub held : Held t
   pub vars : t .vars ≡ initial-run list (stations list) (initials list) (replicate variables 0)
   pub positions : (j : ℕ) → j < stations list → position t j ≡ list-record-at list j .t1
   pub priorities : (j : ℕ) → j < stations list → priority t j ≡ pos (getD resets j 0)
   pub rest : (j : ℕ) → stations list ≤ j → (position t j ≡ 0) × (priority t j ≡ pos 0)
+  pub counts : (j : ℕ) → count t j ≡ 0
   pub n-is : t .n ≡ stations list
   pub b-is : t .b ≡ b
   pub m-is : t .m ≡ 0
@@ -59,8 +60,8 @@ StartBegins bench =
     × (bench .start list b resets lent .lent ≡ with-starts lent resets)
 
 -- STEP: the pick satisfies FAIR's SCH, judged before the step. "SKIP, SET, one test, and AWAIT with its body are one step each": the
--- variables and the station's position after its next step; no other station moves. The priorities satisfy UPDATE, and all else stays but m. The
--- step's record is written to the log, and the state that it answers to its kept place, where it has one
+-- variables and the station's position after its next step; no other station moves. The priorities satisfy UPDATE, those passed over are counted,
+-- and all else stays but m. The step's record is written to the log, and the state that it answers to its kept place, where it has one
 pub record Does (list : List ℕ) (s : State) (p : Pick) (t : State) : Type 0 where
   pub held : Held t
   pub chosen : Sch (s .n) (ready list s) (priority s) (p .station)
@@ -68,7 +69,8 @@ pub record Does (list : List ℕ) (s : State) (p : Pick) (t : State) : Type 0 wh
   pub positions : (j : ℕ)
       → position t j ≡ (if eqb j (p .station) then step-position (s .vars) (next-step list s (p .station)) else position s j)
   pub priorities : Update (s .n) (ready list s) (s .b) (priority s) (priority t) (p .station) (p .reset)
-  pub rest : (j : ℕ) → s .n ≤ j → priority t j ≡ priority s j
+  pub counts : Counted (s .n) (ready list s) (count s) (count t) (p .station)
+  pub rest : (j : ℕ) → s .n ≤ j → (priority t j ≡ priority s j) × (count t j ≡ count s j)
   pub n-is : t .n ≡ s .n
   pub b-is : t .b ≡ s .b
   pub m-is : t .m ≡ s .m + 1

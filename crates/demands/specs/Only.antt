@@ -26,6 +26,6 @@ abbrev pub Carried : Type 0
 Carried = (bench : Seven) → Equal (λ s. Unit {0}) bench → Demands bench
 
 -- and the first two demands leave no other: calls that meet them answer as the rules do, whatever they are given, in every state of 32
--- variables, 8 positions and 8 priorities
+-- variables, 8 positions, 8 priorities and 8 counts
 abbrev pub NoOther : Type 0
 NoOther = (bench : Seven) → Demand1 bench → Demand2 bench → Equal Held bench

@@ -12,13 +12,14 @@ use Rattle.rules.specs.Words.{values}
 use Rattle.rules.specs.Names.{max-stations}
 use Rattle.rules.specs.Records.{list-record-at}
 use Rattle.rules.specs.List.{stations, outside, init-right, sound-list}
-use Rattle.rules.specs.State.{position, priority, few-low, empty-at}
+use Rattle.rules.specs.State.{position, priority, count, few-low, empty-at}
 use Rattle.rules.specs.Start.{started}
 use Rattle.laws.proofs.Choice.{both-left, both-right}
 use Rattle.laws.proofs.Places.{length-values, getD-values}
 use Rattle.fair.specs.Sound.{StartSound}
 use Rattle.fair.proofs.Order.{low}
 use Rattle.laws.proofs.Counts.{tally-none}
+use Rattle.laws.proofs.Signed.{in-bound-means}
 use Rattle.laws.proofs.Sound.{Clauses, sound-means}
 use Rattle.laws.proofs.Sound.{inits-right}
 use Rattle.laws.proofs.Answers.{start-can, start-state}
@@ -36,6 +37,10 @@ module _ (list : List ℕ) (b : ℕ) (resets : List ℕ) where
   pub start-priority : (j : ℕ) → priority (started list b resets) j ≡ pos (getD resets j 0)
   unfolding started
   start-priority j = padded (map pos resets) (max-stations - stations list) j (pos 0) ∙ List·getD-map pos resets j 0
+
+  pub start-count : (j : ℕ) → count (started list b resets) j ≡ 0
+  unfolding started
+  start-count j = padded [] max-stations j 0
 
   pub start-position : (j : ℕ) → j < stations list → position (started list b resets) j ≡ list-record-at list j .t1
   unfolding started
@@ -66,7 +71,7 @@ module _ (list : List ℕ) (b : ℕ) (resets : List ℕ) where
   unfolding empty-at
   started-empty n j l =
       let z : getD resets j 0 ≡ 0 = List·getD-eq-default resets 0 (omega arith) in
-      rw (no-position j l, start-priority j, z, empty-at)
+      rw (no-position j l, start-priority j, start-count j, z, empty-at)
 
   pub started-sound : sound-list list ≡ true → length resets ≡ stations list
       → ((j : ℕ) → j < stations list → getD resets j 0 ≤ b) → Clauses list (started list b resets)
@@ -76,7 +81,7 @@ module _ (list : List ℕ) (b : ℕ) (resets : List ℕ) where
         of-list = refl;
         few-steps = omega arith;
         placed = started-placed h;
-        bounded = λ j l. rw (start-priority j) (le-leb _ b (r j l));
+        bounded = λ j l. rw (start-priority j, start-count j) (in-bound-means b (pos (getD resets j 0)) 0 .1 (omega (arith, r j l)));
         few = started-few;
         empty = λ j l below. started-empty n j l;
       }

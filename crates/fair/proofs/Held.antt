@@ -1,4 +1,4 @@
--- A state keeps its 32 variables, 8 positions and 8 priorities. Assumes nothing.
+-- A state keeps its 32 variables, 8 positions, 8 priorities and 8 counts. Assumes nothing.
 use mathlib.Core.Path.{_≡_, refl, _∙_}
 use mathlib.Core.Bool.{true}
 use mathlib.Core.List.{List}
@@ -14,13 +14,13 @@ use Rattle.rules.specs.State.{State}
 use Rattle.rules.specs.Values.{assigned}
 use Rattle.rules.specs.Start.{initial-run, started}
 use Rattle.rules.specs.Move.{vars-after, target-after, body-run, step-vars}
-use Rattle.rules.specs.Step.{stepped, step}
+use Rattle.rules.specs.Step.{stepped, picked, step}
 use Rattle.laws.proofs.Choice.{by-test}
 use Rattle.laws.proofs.Places.{length-values}
 use Rattle.fair.specs.Sound.{Held, StepHeld}
 use Rattle.fair.proofs.Charge.{length-kept}
 use Rattle.laws.proofs.Sound.{few-stations}
-use Rattle.laws.proofs.Answers.{step-state, step-refused}
+use Rattle.laws.proofs.Answers.{picked-state, picked-leaves, step-state, step-refused}
 
 length-after : (vars : List ℕ) (r : Record) → length (vars-after vars r) ≡ length vars
 length-after vars r = by-test (eqb (r .kind) SET) (λ e. rw e (length-set vars (r .a) _)) (λ e. rw e)
@@ -52,8 +52,16 @@ stepped-held list s p h =
     record {
       vars = length-step list (s .vars) _ ∙ h .vars;
       positions = length-set (s .positions) (p .station) _ ∙ h .positions;
-      priorities = length-kept list s p ∙ h .priorities;
+      priorities = length-kept list s p .0 ∙ h .priorities;
+      counts = length-kept list s p .1 ∙ h .counts;
     }
+
+-- taken or refused, a pick answers a state that does
+pub picked-held : (list : List ℕ) (s : State) (p : Pick) → Held s → Held (picked list s p .state)
+picked-held list s p h =
+    by-test (eqb (picked list s p .number) 0)
+    (λ e. rw (picked-state list s p (eqb-true _ 0 e)) (stepped-held list s p h))
+    (λ e. rw (picked-leaves list s p e) h)
 
 pub step-held : StepHeld
 step-held list s lent p h =
@@ -70,4 +78,5 @@ started-held list b resets h n =
       vars = length-initial list (stations list) (initials list) (replicate variables 0);
       positions = simp (length-append, length-values, length-replicate) (omega arith);
       priorities = simp (length-append, length-map, length-replicate, n) (omega arith);
+      counts = refl;
     }

@@ -57,16 +57,6 @@ pub low-more : (k : ℕ) (z : ℤ) → low (suc k) z ≡ true → low k z ≡ tr
 low-more zero z h = leZ-trans z (negsuc 0) (pos 0) h refl
 low-more (suc k) z h = leZ-trans z (negsuc (suc k)) (negsuc k) h (le-leb k (suc k) (omega arith))
 
--- one less is below
-pred-below : (z : ℤ) → leZ (predℤ z) z ≡ true
-pred-below (pos zero) = refl
-pred-below (pos (suc a)) = le-leb a (suc a) (omega arith)
-pred-below (negsuc a) = le-leb a (suc a) (omega arith)
-
--- what loses 1 stays under a bound
-pub loses-within : (z c : ℤ) → leZ z c ≡ true → leZ (z -ℤ pos 1) c ≡ true
-loses-within z c h = rw -ℤ-one (leZ-trans (predℤ z) z c (pred-below z) h)
-
 pub leZ-refl : (z : ℤ) → leZ z z ≡ true
 leZ-refl (pos a) = le-leb a a (omega arith)
 leZ-refl (negsuc a) = le-leb a a (omega arith)

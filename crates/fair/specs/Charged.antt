@@ -1,4 +1,4 @@
--- What a step's charge does to the priorities, for any list, state and pick. These are claims, and proofs/Charge.antt shows each.
+-- What a step does to the priorities and the counts, for any list, state and pick. These are claims, and proofs/Charge.antt shows each.
 use mathlib.Core.Path.{_≡_}
 use mathlib.Core.Bool.{true, false}
 use mathlib.Core.List.{List}
@@ -7,7 +7,7 @@ use lib.ListN.{length}
 use lib.IntN.{pos, negℤ}
 use lib.Signed.{leZ}
 use Rattle.rules.specs.Records.{Pick}
-use Rattle.rules.specs.State.{State, priority, few-low}
+use Rattle.rules.specs.State.{State, priority, count, in-bound, few-low}
 use Rattle.rules.specs.Ready.{ready}
 use Rattle.rules.specs.Step.{stepped}
 use Rattle.fair.specs.Fair.{Sch}
@@ -29,17 +29,21 @@ AboveLow =
     (s : State) → ((i : ℕ) → i < s .n → few-low s (suc i) ≡ true)
     → (j : ℕ) → j < s .n → leZ (priority s j) (negℤ (pos (s .n))) ≡ false
 
--- "each priority is at most B" is kept
+-- document 02, T-05: "each station's priority plus its count is at most B" is kept, where each station has both
 abbrev pub BoundKept : Type 0
 BoundKept =
-    (list : List ℕ) (s : State) (p : Pick) → p .reset ≤ s .b
-    → ((j : ℕ) → j < s .n → leZ (priority s j) (pos (s .b)) ≡ true)
-    → (j : ℕ) → j < s .n → leZ (priority (stepped list s p) j) (pos (s .b)) ≡ true
+    (list : List ℕ) (s : State) (p : Pick) → s .n ≤ length (s .priorities) → s .n ≤ length (s .counts) → p .reset ≤ s .b
+    → ((j : ℕ) → j < s .n → in-bound (s .b) (priority s j) (count s j) ≡ true)
+    → (j : ℕ) → j < s .n → in-bound (s .b) (priority (stepped list s p) j) (count (stepped list s p) j) ≡ true
 
 -- entries from n on stay
 abbrev pub RestKept : Type 0
-RestKept = (list : List ℕ) (s : State) (p : Pick) (j : ℕ) → s .n ≤ j → priority (stepped list s p) j ≡ priority s j
+RestKept =
+    (list : List ℕ) (s : State) (p : Pick) (j : ℕ) → s .n ≤ j
+    → (priority (stepped list s p) j ≡ priority s j) × (count (stepped list s p) j ≡ count s j)
 
 -- as many entries as before
 abbrev pub LengthKept : Type 0
-LengthKept = (list : List ℕ) (s : State) (p : Pick) → length (stepped list s p .priorities) ≡ length (s .priorities)
+LengthKept =
+    (list : List ℕ) (s : State) (p : Pick)
+    → (length (stepped list s p .priorities) ≡ length (s .priorities)) × (length (stepped list s p .counts) ≡ length (s .counts))

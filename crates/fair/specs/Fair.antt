@@ -21,6 +21,12 @@ pub record Update (n : ℕ) (ready : ℕ → Bool) (b : ℕ) (z z′ : ℕ → �
   pub charged : (j : ℕ) → j < n → j ≢ i → ready j ≡ true → z′ j ≡ z j -ℤ pos 1
   pub stays : (j : ℕ) → j < n → j ≢ i → ready j ≡ false → z′ j ≡ z j
 
+-- document 02, T-05, beside it: c and c′ count the "times ready and passed over since the station's last pick, or since the start"
+pub record Counted (n : ℕ) (ready : ℕ → Bool) (c c′ : ℕ → ℕ) (i : ℕ) : Type 0 where
+  pub picked : c′ i ≡ 0
+  pub passed : (j : ℕ) → j < n → j ≢ i → ready j ≡ true → c′ j ≡ suc (c j)
+  pub stays : (j : ℕ) → j < n → j ≢ i → ready j ≡ false → c′ j ≡ c j
+
 -- "INV": for each k from 1 to n, "card {i | zi ≤ -k} ≤ n - k"; here k is suc i
 abbrev pub Inv : ℕ → (ℕ → ℤ) → Type 0
 Inv n z = (i : ℕ) → i < n → tally (λ j. leZ (z j) (negℤ (pos (suc i)))) n + suc i ≤ n

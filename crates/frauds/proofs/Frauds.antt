@@ -19,14 +19,14 @@ use Rattle.rules.specs.Check.{wrong-length, field-place, station-count, depth-p
 use Rattle.rules.specs.Trees.{parts-of, stations-of, leading-sets, initial-part, size}
 use Rattle.rules.specs.Build.{laid, inits, bodies, list-of, bytes-of, Built, build}
 use Rattle.rules.specs.List.{stations, initials-after, is-at, init-right, initial-right, outside-targets, inside-target, inside-targets, later-right, sound-list}
-use Rattle.rules.specs.State.{State, zeros, priority, few-low, empty-at, sound-state}
+use Rattle.rules.specs.State.{State, zeros, priority, count, few-low, empty-at, sound-state}
 use Rattle.rules.specs.Lent.{Lent}
 use Rattle.rules.specs.Kept.{kept-offset, encoded, kept-state, keep}
 use Rattle.rules.specs.Values.{set-value, holds}
 use Rattle.rules.specs.Start.{initial-run, started, start-records, Started, start}
 use Rattle.rules.specs.Ready.{readiness-at, readiness, ended, waiting, ready, lowest}
 use Rattle.rules.specs.Move.{body-run, step-vars, step-position}
-use Rattle.rules.specs.Step.{charge, stepped, picked, Stepped, step}
+use Rattle.rules.specs.Step.{charge, counts-after, stepped, picked, Stepped, step}
 use Rattle.rules.specs.Run.{Ran, steps-from, run}
 use Rattle.rules.specs.Undo.{Undone}
 use Rattle.rules.specs.Lights.{reads, writes, led-to, body, some-of, touches, Lights, lights}
@@ -81,6 +81,7 @@ dryer v first second priority m =
       vars = v ∷ replicate 31 0;
       positions = first ∷ second ∷ replicate 6 0;
       priorities = priority ∷ replicate 7 (pos 0);
+      counts = replicate 8 0;
       n = 2;
       b = 1;
       m = m;
@@ -174,7 +175,7 @@ record Computed : Type 0 where
   two-count : build two-skips (replicate 64 9) .count ≡ 4
 
 computed : Computed
-unfolding each first tally mask values changed written judge record-from list-record-at rules-of fields-right stride wrong-at walked well-shaped too-deep-at check wrong-length field-place station-count depth-place parts-of stations-of leading-sets initial-part size laid inits bodies list-of bytes-of build stations initials-after is-at init-right initial-right outside-targets inside-target inside-targets later-right sound-list few-low empty-at sound-state set-value holds initial-run started start-records start readiness-at readiness ended waiting ready lowest body-run step-vars step-position charge stepped picked keep step steps-from run reads writes led-to body some-of touches lights
+unfolding each first tally mask values changed written judge record-from list-record-at rules-of fields-right stride wrong-at walked well-shaped too-deep-at check wrong-length field-place station-count depth-place parts-of stations-of leading-sets initial-part size laid inits bodies list-of bytes-of build stations initials-after is-at init-right initial-right outside-targets inside-target inside-targets later-right sound-list few-low empty-at sound-state set-value holds initial-run started start-records start readiness-at readiness ended waiting ready lowest body-run step-vars step-position charge counts-after stepped picked keep step steps-from run reads writes led-to body some-of touches lights
 computed =
     record {
       begins = refl;
@@ -204,7 +205,7 @@ computed =
     }
 
 held : (v first second m : ℕ) (z : ℤ) → Held (dryer v first second z m)
-held v first second m z = record { vars = refl; positions = refl; priorities = refl }
+held v first second m z = record { vars = refl; positions = refl; priorities = refl; counts = refl }
 
 -- two states that differ in their m
 apart : {s t : State} → s ≡ t → s .m ≢ t .m → ⊥
@@ -332,12 +333,14 @@ module _ (bench : Seven) (two : Demand2 bench) where
       let first = r .refused-first (eqb-false _ 0 e) in
       other (omega (arith, c, ap (λ (a : Ran). a .steps) first, ap (λ (a : Ran). a .state .m) first)))
 
-  -- a station that was not ready keeps its number
+  -- a station that was not ready keeps its number and its count
   stays : (list : List ℕ) (s : State) (lent : Lent) (p : Pick) → Held s → bench .step list s lent p .number ≡ 0
-      → (j : ℕ) → j < s .n → ready list s j ≡ false → priority (bench .step list s lent p .state) j ≡ priority s j
+      → (j : ℕ) → j < s .n → ready list s j ≡ false
+      → (priority (bench .step list s lent p .state) j ≡ priority s j) × (count (bench .step list s lent p .state) j ≡ count s j)
   stays list s lent p h e j l r =
       let d = two .step-does list s lent p h e .0 in
-      d .priorities .stays j l (λ same. false≢true (sym r ∙ rw same (d .chosen .enabled))) r
+      let other : j ≢ p .station = λ same. false≢true (sym r ∙ rw same (d .chosen .enabled)) in
+      (d .priorities .stays j l other r, d .counts .stays j l other r)
 
 not-ready : (list : List ℕ) (s : State) (j : ℕ) → j < s .n → waiting list s j ≡ true → ready list s j ≡ false
 not-ready list s j l w = by-test (ready list s j) (λ r. absurd (false≢true (sym (ready-alone list s j l r .1) ∙ w))) (λ r. r)
@@ -358,7 +361,7 @@ module _ (bench : Seven) (two : Demand2 bench) (list : List ℕ) (s : State) (le
       let same = step-same bench two list s lent p h (step-taken list s lent p .1 (can, chosen, reset)) in
       let (does, left) = two .step-does list s lent p h e in
       let room : HasPlace (lent .kept) place = omega (arith, can .steps-left, can .kept-room) in
-      let sound : sound-state list after ≡ true = rw (ap (λ (a : Stepped). a .state) same) (step-sound list s lent p (can .of-state)) in
+      let sound : sound-state list after ≡ true = rw (ap (λ (a : Stepped). a .state) same) (step-sound list s lent p h (can .of-state)) in
       let known : Known list after = record { of-list = can .of-list; of-state = sound } in
       let before : Known list s = record { of-list = can .of-list; of-state = can .of-state } in
       let written-there : bench .step list s lent p .lent .kept ≡ written (lent .kept) (kept-offset place) (encoded after) =
@@ -446,8 +449,13 @@ by-demand-2 bench two =
           false≢true (sym dark ∙ two .waiting-lit list s answered j l w .reads-condition v within .1 asks);
       undo-priorities = λ list s lent calls steps stands other.
           other (ap (λ (a : Undone). a .state .priorities) (two .undo-below list s lent calls steps stands .undone));
-      waiting-charged = λ list s lent p h e j l w other. other (stays bench two list s lent p h e j l (not-ready list s j l w));
-      judged-late = λ list s lent p h e j l r after other. other (stays bench two list s lent p h e j l r);
+      waiting-charged = λ list s lent p h e j l w other. other (stays bench two list s lent p h e j l (not-ready list s j l w) .0);
+      judged-late = λ list s lent p h e j l r after other. other (stays bench two list s lent p h e j l r .0);
+      undo-counts = λ list s lent calls steps stands other.
+          other (ap (λ (a : Undone). a .state .counts) (two .undo-below list s lent calls steps stands .undone));
+      unready-counted = λ list s lent p h e j l r other. other (stays bench two list s lent p h e j l r .1);
+      picked-uncleared = λ list s lent p h e other. other (two .step-does list s lent p h e .0 .counts .picked);
+      passed-uncounted = λ list s lent p h e j l d r other. other (two .step-does list s lent p h e .0 .counts .passed j l d r);
       ended-untold = λ h. h list s₁ l₁ (pick 0 0) (two .step-tells list s₁ l₁ (pick 0 0) .ended-when .1 (step-tells list s₁ l₁ (pick 0 0) .ended-when .0 (computed .ended-step)));
       waiting-ended = λ list s lent p w h.
           let t = two .step-tells list s lent p in

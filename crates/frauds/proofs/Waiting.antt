@@ -24,7 +24,7 @@ use Rattle.rules.specs.Values.{set-value, holds}
 use Rattle.rules.specs.Start.{initial-run, started, start-records, start}
 use Rattle.rules.specs.Ready.{readiness-at, readiness, ended, waiting, ready, lowest}
 use Rattle.rules.specs.Move.{body-run, step-vars, step-position}
-use Rattle.rules.specs.Step.{charge, stepped, picked, step}
+use Rattle.rules.specs.Step.{charge, counts-after, stepped, picked, step}
 use Rattle.rules.specs.History.{Call, CHECK, BUILD, START, STEP, RUN, UNDO, LIGHTS, Steps, begun, Now, stepped-on, single-steps, called, calls-from, history}
 use Rattle.reading.specs.Accepted.{Accepted}
 use Rattle.reading.proofs.Passed.{accepted-is}
@@ -60,7 +60,7 @@ record Computed : Type 0 where
   low : tally (λ j. leZ (priority (now .state) j) (negℤ (pos 2))) (stations (built file)) ≡ 1
 
 computed : Computed
-unfolding each first tally values changed written judge record-from list-record-at rules-of fields-right stride wrong-at walked well-shaped too-deep-at check wrong-length field-place station-count depth-place parts-of stations-of leading-sets initial-part size laid inits bodies list-of bytes-of stations initials-after is-at init-right initial-right outside-targets inside-target inside-targets later-right sound-list few-low empty-at sound-state set-value holds initial-run started start-records start readiness-at readiness ended waiting ready lowest body-run step-vars step-position charge stepped picked keep step stepped-on called calls-from
+unfolding each first tally values changed written judge record-from list-record-at rules-of fields-right stride wrong-at walked well-shaped too-deep-at check wrong-length field-place station-count depth-place parts-of stations-of leading-sets initial-part size laid inits bodies list-of bytes-of stations initials-after is-at init-right initial-right outside-targets inside-target inside-targets later-right sound-list few-low empty-at sound-state set-value holds initial-run started start-records start readiness-at readiness ended waiting ready lowest body-run step-vars step-position charge counts-after stepped picked keep step stepped-on called calls-from
 computed = record { accepted = accepted-is file .0 refl; stands = refl; two = refl; low = refl }
 
 pub waiting-breaks : WaitingBreaks

@@ -6,14 +6,14 @@ use mathlib.Core.Logic.{_≢_}
 use mathlib.Core.Bool.{true, false, not}
 use mathlib.Core.List.{List, [], _∷_, _++_}
 use mathlib.Core.Option.{some}
-use Prim.Native.Nat.{ℕ, _+_, _*_, _/_, _%_, _≤_, _<_}
+use Prim.Native.Nat.{ℕ, suc, _+_, _*_, _/_, _%_, _≤_, _<_}
 use lib.Dec.{eqb}
 use lib.ListN.{length, take, getD}
 use lib.IntN.{ℤ}
 use Rattle.rules.specs.Words.{if_then_else_, changed, written, Answer}
 use Rattle.rules.specs.Names.{LENGTH, LIST, ENDED, variables, kept-every}
 use Rattle.rules.specs.Records.{Pick, pick-at}
-use Rattle.rules.specs.State.{State, zeros, priority}
+use Rattle.rules.specs.State.{State, zeros, priority, count}
 use Rattle.rules.specs.Lent.{Lent}
 use Rattle.rules.specs.Kept.{kept-offset, encoded, kept-state}
 use Rattle.rules.specs.Ready.{next-step, ended, waiting, ready}
@@ -35,10 +35,10 @@ use Rattle.demands.specs.Demands.{Demand1, Demand2}
 
 -- a state with another m, and with other priorities
 abbrev pub with-m : State → ℕ → State
-with-m s m = record { vars = s .vars; positions = s .positions; priorities = s .priorities; n = s .n; b = s .b; m = m }
+with-m s m = record { vars = s .vars; positions = s .positions; priorities = s .priorities; counts = s .counts; n = s .n; b = s .b; m = m }
 
 abbrev pub with-priorities : State → List ℤ → State
-with-priorities s z = record { vars = s .vars; positions = s .positions; priorities = z; n = s .n; b = s .b; m = s .m }
+with-priorities s z = record { vars = s .vars; positions = s .positions; priorities = z; counts = s .counts; n = s .n; b = s .b; m = s .m }
 
 -- what is lit after any calls by a program that remembers; that it is what demand 2 asks; and that after an undo some part of it is what it
 -- was before
@@ -122,6 +122,19 @@ pub record ShutOut (bench : Seven) : Type 0 where
   pub judged-late : (list : List ℕ) (s : State) (lent : Lent) (p : Pick) → Held s → bench .step list s lent p .number ≡ 0
       → (j : ℕ) → j < s .n → ready list s j ≡ false → ready list (bench .step list s lent p .state) j ≡ true
       → priority (bench .step list s lent p .state) j ≢ priority s j → ⊥
+  -- document 02, T-05: an undo that does not give back the counts, in any history
+  pub undo-counts : (list : List ℕ) (s : State) (lent : Lent) (calls : List Call) (steps : Steps)
+      → history bench list s lent calls .standing ≡ some steps
+      → let now = history bench list s lent calls in
+      bench .undo list (now .state) (now .lent) .state .counts ≢ below steps .state .counts → ⊥
+  -- a step that counts a station that was not ready, be it waiting, ended or just released; one that does not clear the count of its own station;
+  -- and one that does not count a station that it passed over
+  pub unready-counted : (list : List ℕ) (s : State) (lent : Lent) (p : Pick) → Held s → bench .step list s lent p .number ≡ 0
+      → (j : ℕ) → j < s .n → ready list s j ≡ false → count (bench .step list s lent p .state) j ≢ count s j → ⊥
+  pub picked-uncleared : (list : List ℕ) (s : State) (lent : Lent) (p : Pick) → Held s → bench .step list s lent p .number ≡ 0
+      → count (bench .step list s lent p .state) (p .station) ≢ 0 → ⊥
+  pub passed-uncounted : (list : List ℕ) (s : State) (lent : Lent) (p : Pick) → Held s → bench .step list s lent p .number ≡ 0
+      → (j : ℕ) → j < s .n → j ≢ p .station → ready list s j ≡ true → count (bench .step list s lent p .state) j ≢ suc (count s j) → ⊥
   -- a STEP that says of a station that has ended only that it is not ready, and one that says of a waiting station that it has ended
   pub ended-untold : ((list : List ℕ) (s : State) (lent : Lent) (p : Pick) → bench .step list s lent p .number ≢ ENDED) → ⊥
   pub waiting-ended : (list : List ℕ) (s : State) (lent : Lent) (p : Pick) → waiting list s (p .station) ≡ true

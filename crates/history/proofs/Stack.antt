@@ -109,7 +109,7 @@ module _ (list : List ℕ) (steps : Steps) (p : Pick) (lent : Lent) (f : Facts l
   step-facts =
       let s = top steps in
       let e = step-state list s lent p h in
-      let sound = step-sound list s lent p (f .sound) in
+      let sound = step-sound list s lent p (f .held) (f .sound) in
       let held = step-held list s lent p (f .held) in
       let top-is = at-top after in
       record {

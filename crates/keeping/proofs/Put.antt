@@ -62,37 +62,41 @@ written-whole : (place bytes : List ℕ) → length bytes ≡ length place → w
 unfolding written
 written-whole place bytes e = rw (zero-add, e, drop-length, append-nil)
 
--- the bytes from the counts' on, put in one part after another
-pub rest-put : (place one two three : List ℕ) (n b m : ℕ) → kept-length ≤ length place → one ≡ written place 160 (replicate 16 0)
-    → two ≡ written (set (set one 176 n) 177 b) 178 (in-two m) → three ≡ written two 180 (replicate 4 0)
-    → three ≡ written place 160 (replicate 16 0 ++ (n ∷ b ∷ in-two m) ++ replicate 4 0)
-rest-put place one two three n b m room e f g =
-    let long : length one ≡ length place = rw e (length-written place 160 (replicate 16 0) (omega arith)) in
-    let second = put-next place one _ (replicate 16 0) (n ∷ b ∷ []) 160 176 refl (omega arith) e (written-record one 176 n b (omega arith)) in
-    let third = put-next place _ two (replicate 16 0 ++ (n ∷ b ∷ [])) (in-two m) 160 178 refl (omega arith) second f in
-    put-next place two three (replicate 16 0 ++ (n ∷ b ∷ []) ++ in-two m) (replicate 4 0) 160 180 refl (omega arith) third g
+-- the bytes from n's on, put in one part after another
+pub rest-put : (place one two : List ℕ) (n b m : ℕ) → kept-length ≤ length place
+    → one ≡ written (set (set place 176 n) 177 b) 178 (in-two m) → two ≡ written one 180 (replicate 4 0)
+    → two ≡ written place 176 ((n ∷ b ∷ in-two m) ++ replicate 4 0)
+rest-put place one two n b m room e f =
+    let first = written-record place 176 n b (omega arith) in
+    let second = put-next place _ one (n ∷ b ∷ []) (in-two m) 176 178 refl (omega arith) first e in
+    put-next place one two (n ∷ b ∷ in-two m) (replicate 4 0) 176 180 refl (omega arith) second f
 
 -- what a place holds in the end
-pub state-put : (place one two three four : List ℕ) (s : State) → length (s .vars) ≡ variables → length (s .positions) ≡ max-stations
-    → length (s .priorities) ≡ max-stations → length place ≡ kept-length → one ≡ written place 0 (joined in-four (s .vars))
-    → two ≡ written one 128 (joined in-two (s .positions)) → three ≡ written two 144 (joined (λ z. in-two (raised z)) (s .priorities))
-    → four ≡ written three 160 (replicate 16 0 ++ (s .n ∷ s .b ∷ in-two (s .m)) ++ replicate 4 0) → four ≡ encoded s
+pub state-put : (place one two three four five : List ℕ) (s : State) → length (s .vars) ≡ variables → length (s .positions) ≡ max-stations
+    → length (s .priorities) ≡ max-stations → length (s .counts) ≡ max-stations → length place ≡ kept-length
+    → one ≡ written place 0 (joined in-four (s .vars)) → two ≡ written one 128 (joined in-two (s .positions))
+    → three ≡ written two 144 (joined (λ z. in-two (raised z)) (s .priorities)) → four ≡ written three 160 (joined in-two (s .counts))
+    → five ≡ written four 176 ((s .n ∷ s .b ∷ in-two (s .m)) ++ replicate 4 0) → five ≡ encoded s
 unfolding encoded
-state-put place one two three four s v p q whole e f g h =
+state-put place one two three four five s v p q r whole e f g h i =
     let vars = joined in-four (s .vars) in
     let positions = joined in-two (s .positions) in
     let priorities = joined (λ z. in-two (raised z)) (s .priorities) in
-    let rest = replicate 16 0 ++ (s .n ∷ s .b ∷ in-two (s .m)) ++ replicate 4 0 in
+    let counts = joined in-two (s .counts) in
+    let rest = (s .n ∷ s .b ∷ in-two (s .m)) ++ replicate 4 0 in
     let a : length vars ≡ 128 = rw (length-joined in-four 4 (λ x. refl) (s .vars), v) in
     let b : length positions ≡ 16 = rw (length-joined in-two 2 (λ x. refl) (s .positions), p) in
     let c : length priorities ≡ 16 = rw (length-joined (λ z. in-two (raised z)) 2 (λ z. refl) (s .priorities), q) in
-    let d : length (vars ++ positions) ≡ 144 = rw (length-append, a, b) in
-    let k : length ((vars ++ positions) ++ priorities) ≡ 160 = rw (length-append, d, c) in
-    let l : length (((vars ++ positions) ++ priorities) ++ rest) ≡ length place = rw (length-append, k, whole) in
+    let d : length counts ≡ 16 = rw (length-joined in-two 2 (λ x. refl) (s .counts), r) in
+    let j : length (vars ++ positions) ≡ 144 = rw (length-append, a, b) in
+    let k : length ((vars ++ positions) ++ priorities) ≡ 160 = rw (length-append, j, c) in
+    let l : length (((vars ++ positions) ++ priorities) ++ counts) ≡ 176 = rw (length-append, k, d) in
+    let m : length ((((vars ++ positions) ++ priorities) ++ counts) ++ rest) ≡ length place = rw (length-append, l, whole) in
     let second = put-next place one two vars positions 0 128 (omega arith) (omega arith) e f in
     let third = put-next place two three (vars ++ positions) priorities 0 144 (omega arith) (omega arith) second g in
-    put-next place three four ((vars ++ positions) ++ priorities) rest 0 160 (omega arith) (omega arith) third h
-    ∙ written-whole place (((vars ++ positions) ++ priorities) ++ rest) l
+    let fourth = put-next place three four ((vars ++ positions) ++ priorities) counts 0 160 (omega arith) (omega arith) third h in
+    put-next place four five (((vars ++ positions) ++ priorities) ++ counts) rest 0 176 (omega arith) (omega arith) fourth i
+    ∙ written-whole place ((((vars ++ positions) ++ priorities) ++ counts) ++ rest) m
     ∙ simp append-assoc
 
 -- where the steps of a state are no multiple of 64 nothing is kept

@@ -16,11 +16,12 @@ pub fn keep(
     vars: &[u32; 32],
     positions: &[u16; 8],
     priorities: &[i16; 8],
+    counts: &[u16; 8],
     n: u8,
     b: u8,
     m: u16,
 )
-    ensures { λ r. ⌜ now (kept .exit) ≡ (if has-place m (now (kept .entry)) then keep (now (kept .entry)) (of-parts (now (vars .entry)) (now (positions .entry)) (now (priorities .entry)) n b m) else now (kept .entry)) ⌝ }
+    ensures { λ r. ⌜ now (kept .exit) ≡ (if has-place m (now (kept .entry)) then keep (now (kept .entry)) (of-parts (now (vars .entry)) (now (positions .entry)) (now (priorities .entry)) (now (counts .entry)) n b m) else now (kept .entry)) ⌝ }
 {
     if m == 0 || m % Record::KEPT_EVERY != 0 {
         return;
@@ -29,7 +30,16 @@ pub fn keep(
     let at = Record::KEPT_LENGTH * (j - 1);
     let end = at + Record::KEPT_LENGTH;
     if end <= kept.len() {
-        put_state(&mut kept[at..end], vars, positions, priorities, n, b, m);
+        put_state(
+            &mut kept[at..end],
+            vars,
+            positions,
+            priorities,
+            counts,
+            n,
+            b,
+            m,
+        );
     }
 }
 
@@ -39,16 +49,18 @@ fn put_state(
     vars: &[u32; 32],
     positions: &[u16; 8],
     priorities: &[i16; 8],
+    counts: &[u16; 8],
     n: u8,
     b: u8,
     m: u16,
 )
     requires { ⌜ length (now place) ≡ kept-length ⌝ }
-    ensures { λ r. ⌜ now (place .exit) ≡ encoded (of-parts (now (vars .entry)) (now (positions .entry)) (now (priorities .entry)) n b m) ⌝ }
+    ensures { λ r. ⌜ now (place .exit) ≡ encoded (of-parts (now (vars .entry)) (now (positions .entry)) (now (priorities .entry)) (now (counts .entry)) n b m) ⌝ }
 {
     put_vars(place, vars);
-    put_positions(place, positions);
+    put_row(place, Record::KEPT_POSITIONS, positions);
     put_priorities(place, priorities);
+    put_row(place, Record::KEPT_COUNTS, counts);
     put_rest(place, n, b, m);
 }
 
@@ -64,14 +76,14 @@ fn put_vars(place: &mut [u8], vars: &[u32])
     }
 }
 
-// Puts the positions into a kept place.
-fn put_positions(place: &mut [u8], positions: &[u16])
-    requires { ⌜ 128 + 2 * length (now positions) ≤ length (now place) ⌝ }
-    ensures { λ r. ⌜ now (place .exit) ≡ written (now (place .entry)) 128 (joined in-two (now (positions .entry))) ⌝ }
+// Puts a row of numbers into two bytes each, from an offset on.
+fn put_row(place: &mut [u8], at: usize, row: &[u16])
+    requires { ⌜ at + 2 * length (now row) ≤ length (now place) ⌝ }
+    ensures { λ r. ⌜ now (place .exit) ≡ written (now (place .entry)) at (joined in-two (now (row .entry))) ⌝ }
 {
     let mut j: usize = 0;
-    while j < positions.len() {
-        put_two(place, Record::KEPT_POSITIONS + 2 * j, positions[j]);
+    while j < row.len() {
+        put_two(place, at + 2 * j, row[j]);
         j += 1;
     }
 }
@@ -92,16 +104,11 @@ fn put_priorities(place: &mut [u8], priorities: &[i16])
     }
 }
 
-// Puts n, b and m into a kept place, and zeros into its other bytes from the counts' on.
+// Puts n, b and m into a kept place, and zeros into the bytes behind them.
 fn put_rest(place: &mut [u8], n: u8, b: u8, m: u16)
     requires { ⌜ kept-length ≤ length (now place) ⌝ }
-    ensures { λ r. ⌜ now (place .exit) ≡ written (now (place .entry)) 160 (replicate 16 0 ++ (n ∷ b ∷ in-two m) ++ replicate 4 0) ⌝ }
+    ensures { λ r. ⌜ now (place .exit) ≡ written (now (place .entry)) 176 ((n ∷ b ∷ in-two m) ++ replicate 4 0) ⌝ }
 {
-    put_zeros(
-        place,
-        Record::KEPT_COUNTS,
-        Record::KEPT_N - Record::KEPT_COUNTS,
-    );
     place[Record::KEPT_N] = n;
     place[Record::KEPT_N + 1] = b;
     put_two(place, Record::KEPT_N + 2, m);

@@ -10,13 +10,13 @@ use lib.ListN.{length, getD, replicate, length-append, List·getD-append}
 use lib.Seq.{getD-append-add, ext-getD}
 use lib.IntN.{ℤ, pos, negsuc, negℤ}
 use lib.Signed.{leZ}
-use Rattle.rules.specs.Words.{joined, written}
+use Rattle.rules.specs.Words.{values, joined, written}
 use Rattle.rules.specs.Names.{variables, max-stations, kept-length}
 use Rattle.rules.specs.Records.{half, word}
-use Rattle.rules.specs.State.{State, position, priority, empty-at}
+use Rattle.rules.specs.State.{State, position, priority, count, empty-at}
 use Rattle.rules.specs.Kept.{kept-offset, in-two, in-four, raised, lowered, encoded, kept-state, kept-zeros}
 use Rattle.laws.specs.Passed.{Known}
-use Rattle.laws.proofs.Choice.{by-test, both, both-right}
+use Rattle.laws.proofs.Choice.{by-test, both-left, both-right}
 use Rattle.laws.proofs.Places.{each-all, length-values, getD-values}
 use Rattle.laws.proofs.Joined.{length-joined, getD-joined}
 use Rattle.laws.proofs.Sound.{sound-means, at-most-eight}
@@ -57,7 +57,9 @@ high-enough list s known j l =
     let sound = sound-means list s .0 (known .of-state) in
     by-test (ltb j (s .n))
     (λ e. above (priority s j) (s .n) (at-most-eight known) (above-low s (sound .few) j (ltb-true j (s .n) e)))
-    (λ e. not-negative (priority s j) (both-right (eqb (position s j) 0 && leZ (priority s j) (pos 0)) _ (sound .empty j (ltb-false j (s .n) e) l)))
+    (λ e.
+    let clear = both-left _ (eqb (count s j) 0) (sound .empty j (ltb-false j (s .n) e) l) in
+    not-negative (priority s j) (both-right (eqb (position s j) 0 && leZ (priority s j) (pos 0)) _ clear))
 
 -- the parts of a state's bytes
 abbrev in-fours : State → List ℕ
@@ -69,10 +71,13 @@ in-twos s = joined in-two (s .positions)
 abbrev in-raised : State → List ℕ
 in-raised s = joined (λ z. in-two (raised z)) (s .priorities)
 
-abbrev last-bytes : State → List ℕ
-last-bytes s = replicate 16 0 ++ ((s .n ∷ s .b ∷ in-two (s .m)) ++ replicate 4 0)
+abbrev in-counts : State → List ℕ
+in-counts s = joined in-two (s .counts)
 
-parted : (s : State) → encoded s ≡ in-fours s ++ (in-twos s ++ (in-raised s ++ last-bytes s))
+abbrev last-bytes : State → List ℕ
+last-bytes s = (s .n ∷ s .b ∷ in-two (s .m)) ++ replicate 4 0
+
+parted : (s : State) → encoded s ≡ in-fours s ++ (in-twos s ++ (in-raised s ++ (in-counts s ++ last-bytes s)))
 unfolding encoded
 parted s = simp append-assoc
 
@@ -90,11 +95,14 @@ module _ (s : State) (held : Held s) where
   length-raised : length (in-raised s) ≡ 16
   length-raised = length-joined (λ z. in-two (raised z)) 2 (λ x. refl) (s .priorities) ∙ rw (held .priorities)
 
+  length-counts : length (in-counts s) ≡ 16
+  length-counts = length-joined in-two 2 (λ x. refl) (s .counts) ∙ rw (held .counts)
+
   pub length-encoded : length (encoded s) ≡ kept-length
   length-encoded =
-      rw (parted s) (simp length-append (omega (arith, length-fours, length-twos, length-raised)))
+      rw (parted s) (simp length-append (omega (arith, length-fours, length-twos, length-raised, length-counts)))
 
-  -- a variable's bytes, a position's and a priority's, and those behind them
+  -- a variable's bytes, a position's, a priority's and a count's, and those behind them
   var-byte : (v r : ℕ) → v < variables → r < 4 → getD (encoded s) (4 * v + r) 0 ≡ getD (in-four (getD (s .vars) v 0)) r 0
   var-byte v r l k =
       rw (parted s)
@@ -116,12 +124,21 @@ module _ (s : State) (held : Held s) where
       ∙ List·getD-append (in-raised s) _ 0 (2 * j + r) (omega (arith, length-raised))
       ∙ getD-joined (λ z. in-two (raised z)) 2 (λ x. refl) (s .priorities) j r (pos 0) (omega (arith, held .priorities)) k)
 
-  last-byte : (i at : ℕ) → at ≡ 160 + i → getD (encoded s) at 0 ≡ getD (last-bytes s) i 0
-  last-byte i at e =
+  from-counts : (i at : ℕ) → at ≡ 160 + i → getD (encoded s) at 0 ≡ getD (in-counts s ++ last-bytes s) i 0
+  from-counts i at e =
       rw (parted s)
       (behind (in-fours s) _ 128 (32 + i) at length-fours (omega arith)
       ∙ behind (in-twos s) _ 16 (16 + i) _ length-twos (omega arith)
       ∙ behind (in-raised s) _ 16 i _ length-raised refl)
+
+  count-byte : (j r : ℕ) → j < max-stations → r < 2 → getD (encoded s) (160 + 2 * j + r) 0 ≡ getD (in-two (getD (s .counts) j 0)) r 0
+  count-byte j r l k =
+      from-counts (2 * j + r) _ (omega arith)
+      ∙ List·getD-append (in-counts s) _ 0 (2 * j + r) (omega (arith, length-counts))
+      ∙ getD-joined in-two 2 (λ x. refl) (s .counts) j r 0 (omega (arith, held .counts)) k
+
+  last-byte : (i at : ℕ) → at ≡ 176 + i → getD (encoded s) at 0 ≡ getD (last-bytes s) i 0
+  last-byte i at e = from-counts (16 + i) at (omega arith) ∙ behind (in-counts s) _ 16 i _ length-counts refl
 
 -- zeros
 getD-replicate : (n i : ℕ) → getD {A = ℕ} (replicate n 0) i 0 ≡ 0
@@ -129,15 +146,8 @@ getD-replicate zero i = refl
 getD-replicate (suc n) zero = refl
 getD-replicate (suc n) (suc i) = getD-replicate n i
 
-front-zero : (s : State) (i : ℕ) → i < 16 → getD (last-bytes s) i 0 ≡ 0
-front-zero s i l =
-    List·getD-append (replicate 16 0) ((s .n ∷ s .b ∷ in-two (s .m)) ++ replicate 4 0) 0 i (omega arith) ∙ getD-replicate 16 i
-
-end-zero : (s : State) (i : ℕ) → getD (last-bytes s) (20 + i) 0 ≡ 0
-end-zero s i =
-    behind (replicate 16 0) ((s .n ∷ s .b ∷ in-two (s .m)) ++ replicate 4 0) 16 (4 + i) (20 + i) refl (omega arith)
-    ∙ behind (s .n ∷ s .b ∷ in-two (s .m)) (replicate 4 0) 4 i (4 + i) refl refl
-    ∙ getD-replicate 4 i
+end-zero : (s : State) (i : ℕ) → getD (last-bytes s) (4 + i) 0 ≡ 0
+end-zero s i = behind (s .n ∷ s .b ∷ in-two (s .m)) (replicate 4 0) 4 i (4 + i) refl refl ∙ getD-replicate 4 i
 
 -- four bytes and two, read back
 four-back : (x : ℕ) → x % 256 + 256 * (x / 256 % 256) + 65536 * (x / 65536 % 256) + 16777216 * (x / 16777216) ≡ x
@@ -164,21 +174,33 @@ module _ (list kept : List ℕ) (s : State) (j : ℕ) (held : Held s) (known : K
       let d = here (4 * v + 3) (kept-offset j + 4 * v + 3) (omega arith) (omega arith) ∙ var-byte s held v 3 l (omega arith) in
       rw (a, b, c, d) (four-back x)
 
-  position-back : (i : ℕ) → i < max-stations → half place (kept-offset j + 128 + 2 * i) ≡ getD (s .positions) i 0
-  position-back i l =
-      let a = here (128 + 2 * i + 0) (kept-offset j + 128 + 2 * i) (omega arith) (omega arith) ∙ position-byte s held i 0 l (omega arith) in
-      let b = here (128 + 2 * i + 1) (kept-offset j + 128 + 2 * i + 1) (omega arith) (omega arith) ∙ position-byte s held i 1 l (omega arith) in
-      rw (a, b) (two-back (getD (s .positions) i 0))
+  -- a number of two bytes
+  half-back : (at x : ℕ) → at + 2 ≤ kept-length → ((r : ℕ) → r < 2 → getD (encoded s) (at + r) 0 ≡ getD (in-two x) r 0)
+      → half place (kept-offset j + at) ≡ x
+  half-back at x l bytes =
+      let a = here (at + 0) (kept-offset j + at) (omega arith) (omega arith) ∙ bytes 0 (omega arith) in
+      let b = here (at + 1) (kept-offset j + at + 1) (omega arith) (omega arith) ∙ bytes 1 (omega arith) in
+      rw (a, b) (two-back x)
+
+  -- a row of them, one a station
+  row-back : (at : ℕ) (row : List ℕ) → at + 16 ≤ kept-length → length row ≡ max-stations
+      → ((i r : ℕ) → i < max-stations → r < 2 → getD (encoded s) (at + 2 * i + r) 0 ≡ getD (in-two (getD row i 0)) r 0)
+      → values (λ i. half place (kept-offset j + at + 2 * i)) max-stations ≡ row
+  row-back at row fits long bytes =
+      ext-getD 0 _ row (length-values _ max-stations ∙ sym long)
+      (λ i l.
+      let k : i < max-stations = omega (arith, length-values (λ i. half place (kept-offset j + at + 2 * i)) max-stations) in
+      let e : kept-offset j + at + 2 * i ≡ kept-offset j + (at + 2 * i) = omega arith in
+      getD-values _ max-stations i 0 k ∙ rw e (half-back (at + 2 * i) (getD row i 0) (omega arith) (λ r m. bytes i r k m)))
 
   priority-back : (i : ℕ) → i < max-stations → lowered (half place (kept-offset j + 144 + 2 * i)) ≡ priority s i
   priority-back i l =
-      let a = here (144 + 2 * i + 0) (kept-offset j + 144 + 2 * i) (omega arith) (omega arith) ∙ priority-byte s held i 0 l (omega arith) in
-      let b = here (144 + 2 * i + 1) (kept-offset j + 144 + 2 * i + 1) (omega arith) (omega arith) ∙ priority-byte s held i 1 l (omega arith) in
-      let both : half place (kept-offset j + 144 + 2 * i) ≡ raised (priority s i) = rw (a, b) (two-back (raised (priority s i))) in
-      rw both (lowered-raised (priority s i) (high-enough list s known i l))
+      let e : kept-offset j + 144 + 2 * i ≡ kept-offset j + (144 + 2 * i) = omega arith in
+      rw (e, half-back (144 + 2 * i) (raised (priority s i)) (omega arith) (λ r m. priority-byte s held i r l m))
+      (lowered-raised (priority s i) (high-enough list s known i l))
 
-  last-back : (i at : ℕ) → i < 24 → at ≡ kept-offset j + 160 + i → getD place at 0 ≡ getD (last-bytes s) i 0
-  last-back i at l e = here (160 + i) at (omega arith) (omega arith) ∙ last-byte s held i _ refl
+  last-back : (i at : ℕ) → i < 8 → at ≡ kept-offset j + 176 + i → getD place at 0 ≡ getD (last-bytes s) i 0
+  last-back i at l e = here (176 + i) at (omega arith) (omega arith) ∙ last-byte s held i _ refl
 
   vars-are : kept-state place j .vars ≡ s .vars
   unfolding kept-state
@@ -190,11 +212,11 @@ module _ (list kept : List ℕ) (s : State) (j : ℕ) (held : Held s) (known : K
 
   positions-are : kept-state place j .positions ≡ s .positions
   unfolding kept-state
-  positions-are =
-      ext-getD 0 _ (s .positions) (length-values _ max-stations ∙ sym (held .positions))
-      (λ i l.
-      let k : i < max-stations = omega (arith, length-values (λ i. half place (kept-offset j + 128 + 2 * i)) max-stations) in
-      getD-values _ max-stations i 0 k ∙ position-back i k)
+  positions-are = row-back 128 (s .positions) (omega arith) (held .positions) (position-byte s held)
+
+  counts-are : kept-state place j .counts ≡ s .counts
+  unfolding kept-state
+  counts-are = row-back 160 (s .counts) (omega arith) (held .counts) (count-byte s held)
 
   priorities-are : kept-state place j .priorities ≡ s .priorities
   unfolding kept-state
@@ -206,16 +228,14 @@ module _ (list kept : List ℕ) (s : State) (j : ℕ) (held : Held s) (known : K
 
   steps-are : half place (kept-offset j + 178) ≡ s .m
   steps-are =
-      let a = last-back 18 (kept-offset j + 178) (omega arith) (omega arith) in
-      let b = last-back 19 (kept-offset j + 178 + 1) (omega arith) (omega arith) in
+      let a = last-back 2 (kept-offset j + 178) (omega arith) (omega arith) in
+      let b = last-back 3 (kept-offset j + 178 + 1) (omega arith) (omega arith) in
       rw (a, b) (two-back (s .m))
 
   all-zero : kept-zeros place j ≡ true
   unfolding kept-zeros
   all-zero =
-      both
-      (each-all _ 16 (λ i l. eq-eqb _ 0 (last-back i (kept-offset j + 160 + i) (omega arith) refl ∙ front-zero s i l)))
-      (each-all _ 4 (λ i l. eq-eqb _ 0 (last-back (20 + i) (kept-offset j + 180 + i) (omega arith) (omega arith) ∙ end-zero s i)))
+      each-all _ 4 (λ i l. eq-eqb _ 0 (last-back (4 + i) (kept-offset j + 180 + i) (omega arith) (omega arith) ∙ end-zero s i))
 
 pub kept-back : KeptBack
 unfolding kept-state
@@ -223,14 +243,16 @@ kept-back list kept s j held known room =
     let vars = vars-are list kept s j held known room in
     let positions = positions-are list kept s j held known room in
     let priorities = priorities-are list kept s j held known room in
-    let n = last-back list kept s j held known room 16 (kept-offset j + 176) (omega arith) (omega arith) in
-    let b = last-back list kept s j held known room 17 (kept-offset j + 177) (omega arith) (omega arith) in
+    let counts = counts-are list kept s j held known room in
+    let n = last-back list kept s j held known room 0 (kept-offset j + 176) (omega arith) (omega arith) in
+    let b = last-back list kept s j held known room 1 (kept-offset j + 177) (omega arith) (omega arith) in
     let m = steps-are list kept s j held known room in
     record {
       state-is = λ i. record {
         vars = vars i;
         positions = positions i;
         priorities = priorities i;
+        counts = counts i;
         n = n i;
         b = b i;
         m = m i;

@@ -7,7 +7,7 @@ use native.Mathlib.Omega.{arith}
 use borrow.Author.Tests.{ltb-true, ltb-false}
 use lib.Dec.{eqb, ltb}
 use lib.ListN.{length, getD}
-use Rattle.rules.specs.Words.{written}
+use Rattle.rules.specs.Words.{values, written}
 use Rattle.rules.specs.Names.{variables, max-stations, kept-length}
 use Rattle.rules.specs.Records.{half, word}
 use Rattle.rules.specs.State.{State}
@@ -41,8 +41,12 @@ module _ (kept other : List ℕ) (j : ℕ)
   same-state =
       let at = kept-offset j in
       let vars = values-same (λ v. word other (at + 4 * v)) (λ v. word kept (at + 4 * v)) variables (λ v l. same-word (4 * v) _ (omega arith) refl) in
-      let positions = values-same (λ i. half other (at + 128 + 2 * i)) (λ i. half kept (at + 128 + 2 * i)) max-stations
-      (λ i l. same-half (128 + 2 * i) _ (omega arith) (omega arith)) in
+      let row : (k : ℕ) → k + 16 ≤ kept-length
+      → values (λ i. half other (at + k + 2 * i)) max-stations ≡ values (λ i. half kept (at + k + 2 * i)) max-stations =
+      λ k fits. values-same (λ i. half other (at + k + 2 * i)) (λ i. half kept (at + k + 2 * i)) max-stations
+      (λ i l. same-half (k + 2 * i) _ (omega arith) (omega arith)) in
+      let positions = row 128 (omega arith) in
+      let counts = row 160 (omega arith) in
       let priorities = values-same (λ i. lowered (half other (at + 144 + 2 * i))) (λ i. lowered (half kept (at + 144 + 2 * i))) max-stations
       (λ i l. ap lowered (same-half (144 + 2 * i) _ (omega arith) (omega arith))) in
       let n = same 176 _ (omega arith) refl in
@@ -52,6 +56,7 @@ module _ (kept other : List ℕ) (j : ℕ)
         vars = vars i;
         positions = positions i;
         priorities = priorities i;
+        counts = counts i;
         n = n i;
         b = b i;
         m = m i;
@@ -61,11 +66,8 @@ module _ (kept other : List ℕ) (j : ℕ)
   unfolding kept-zeros
   same-zeros =
       let at = kept-offset j in
-      let front = each-same (λ i. eqb (getD other (at + 160 + i) 0) 0) (λ i. eqb (getD kept (at + 160 + i) 0) 0) 16
-      (λ i l. ap (λ (x : ℕ). eqb x 0) (same (160 + i) _ (omega arith) (omega arith))) in
-      let end = each-same (λ i. eqb (getD other (at + 180 + i) 0) 0) (λ i. eqb (getD kept (at + 180 + i) 0) 0) 4
-      (λ i l. ap (λ (x : ℕ). eqb x 0) (same (180 + i) _ (omega arith) (omega arith))) in
-      rw (front, end)
+      each-same (λ i. eqb (getD other (at + 180 + i) 0) 0) (λ i. eqb (getD kept (at + 180 + i) 0) 0) 4
+      (λ i l. ap (λ (x : ℕ). eqb x 0) (same (180 + i) _ (omega arith) (omega arith)))
 
 -- a place of its own has none of another's bytes
 apart : (kept : List ℕ) (s : State) (j k : ℕ) → Held s → HasPlace kept k → 1 ≤ j → 1 ≤ k → j ≢ k → (i at : ℕ) → i < kept-length

@@ -11,6 +11,7 @@ pub mod Joined
 pub mod Lowest
 pub mod Shapes
 pub mod Bodies
+pub mod Signed
 pub mod Sound
 pub mod Ready
 pub mod Passed

@@ -8,14 +8,12 @@ use native.Mathlib.Omega.{arith}
 use borrow.Author.Tests.{leb-true, le-leb, ltb-true, eqb-true, eq-eqb, not-false}
 use lib.Dec.{eqb, leb, ltb}
 use lib.ListN.{length}
-use lib.IntN.{pos}
-use lib.Signed.{leZ}
 use Rattle.rules.specs.Words.{each}
 use Rattle.rules.specs.Names.{IF, max-list, max-stations, max-steps}
 use Rattle.rules.specs.Records.{list-record-at, list-count}
 use Rattle.rules.specs.List.{stations, initials, later, is-at, outside, inside, init-right, initial-right, later-right, sound-list}
 use Rattle.rules.specs.List.{inside-target, outside-targets, inside-targets}
-use Rattle.rules.specs.State.{State, position, priority, few-low, empty-at, sound-state}
+use Rattle.rules.specs.State.{State, position, priority, count, in-bound, few-low, empty-at, sound-state}
 use Rattle.laws.specs.Passed.{Known}
 use Rattle.laws.proofs.Choice.{by-test, surely, both, split}
 use Rattle.laws.proofs.Places.{each-at, each-all, each-from}
@@ -131,7 +129,7 @@ pub record Clauses (list : List ℕ) (s : State) : Type 0 where
   pub of-list : s .n ≡ stations list
   pub few-steps : s .m ≤ max-steps
   pub placed : (j : ℕ) → j < s .n → outside list j (position s j) ≡ true
-  pub bounded : (j : ℕ) → j < s .n → leZ (priority s j) (pos (s .b)) ≡ true
+  pub bounded : (j : ℕ) → j < s .n → in-bound (s .b) (priority s j) (count s j) ≡ true
   pub few : (i : ℕ) → i < s .n → few-low s (suc i) ≡ true
   pub empty : (j : ℕ) → s .n ≤ j → j < max-stations → empty-at s j ≡ true
 

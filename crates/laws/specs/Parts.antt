@@ -7,12 +7,13 @@ use Rattle.rules.specs.Words.{if_then_else_}
 use Rattle.rules.specs.State.{State}
 
 -- a state of these parts
-abbrev pub of-parts : List ℕ → List ℕ → List ℤ → ℕ → ℕ → ℕ → State
-of-parts vars positions priorities n b m =
+abbrev pub of-parts : List ℕ → List ℕ → List ℤ → List ℕ → ℕ → ℕ → ℕ → State
+of-parts vars positions priorities counts n b m =
     record {
       vars = vars;
       positions = positions;
       priorities = priorities;
+      counts = counts;
       n = n;
       b = b;
       m = m;

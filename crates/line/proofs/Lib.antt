@@ -1,1 +1,1 @@
-pub mod Priorities
+pub mod Entries

@@ -7,7 +7,7 @@ use lib.IntN.{ℤ}
 use Rattle.rules.specs.Words.{if_then_else_, mask, values}
 use Rattle.rules.specs.Names.{variables, max-stations}
 use Rattle.rules.specs.Records.{Record}
-use Rattle.rules.specs.State.{State, stepless}
+use Rattle.rules.specs.State.{State, stepless, no-counts}
 use Rattle.rules.specs.Ready.{Readiness, next-step, says-ready, says-ended, says-waiting, ready, waiting, ended}
 use Rattle.rules.specs.Lights.{reads, writes, in-turn}
 use Rattle.touches.specs.Touched.{touched}
@@ -41,9 +41,9 @@ masks-from list s j =
       writes = row-from writes list s j;
     }
 
--- a state of these parts and of eight stations at most: the masks do not depend on its b and m
+-- a state of these parts and of eight stations at most: the masks do not depend on its counts, b and m
 abbrev pub state-of : List ℕ → List ℕ → List ℤ → ℕ → State
-state-of vars positions priorities n = stepless vars positions priorities (min n max-stations) 0
+state-of vars positions priorities n = stepless vars positions priorities no-counts (min n max-stations) 0
 
 -- each mask has room for a station more
 pub record Room (masks : Masks) : Type 0 where

@@ -1,6 +1,6 @@
 -- What a pick asks of the stations, answered from their readiness before it, which is worked out once. Assumes nothing.
 use Prim.Native.Nat.{ℕ, _≤_, _<_, min}
-use mathlib.Core.Path.{_≡_, sym, ap, _∙_}
+use mathlib.Core.Path.{_≡_, refl, sym, ap, _∙_}
 use mathlib.Core.Logic.{_⊎_, ⊎-elim}
 use mathlib.Core.Bool.{Bool, true, false, not}
 use mathlib.Core.List.{List, [], _∷_}
@@ -22,15 +22,15 @@ use Rattle.laws.proofs.Places.{each-same}
 use Rattle.laws.proofs.Changed.{changed-fewer}
 use Rattle.laws.proofs.Ready.{readiness-here, readiness-tells}
 use Rattle.laws.proofs.Told.{ready-number, pick-told}
-use Rattle.charging.specs.Charge.{held-charge}
+use Rattle.charging.specs.Charge.{held-charge, held-count}
 use Rattle.stations.specs.Places.{readiness-from, ready-from}
 use Rattle.stations.proofs.Known.{ready-known}
 use Rattle.picking.specs.Took.{state-of}
 
-module _ (list vars positions : List ℕ) (priorities : List ℤ) (n b : ℕ) (p : Pick) {all : List Bool}
+module _ (list vars positions : List ℕ) (priorities : List ℤ) (counts : List ℕ) (n b : ℕ) (p : Pick) {all : List Bool}
     (is : all ≡ changed (λ j was. ready-from list vars (position-in positions j)) (min n max-stations) (replicate max-stations false)) where
   abbrev s : State
-  s = state-of vars positions priorities n b
+  s = state-of vars positions priorities counts n b
 
   ready-here : (j : ℕ) → getD all j false ≡ ready (narrow list) s j
   ready-here = ready-known (narrow list) s (min-le-right n max-stations) is
@@ -62,12 +62,22 @@ module _ (list vars positions : List ℕ) (priorities : List ℤ) (n b : ℕ) (p
       ≡ refusal (pick-tests (narrow list) s p)
   judged tells turn = rw (tells, turn ∙ lowest-here) (sym (pick-told (narrow list) s p))
 
-  -- the charge of all eight is the charge of those that the list has
-  pub charged :
-      p .station < min n max-stations →
-      changed (λ j. held-charge (eqb j (p .station)) (getD all j false) (p .reset)) max-stations priorities
-      ≡ changed (λ j. held-charge (eqb j (p .station)) (ready (narrow list) s j) (p .reset)) (min n max-stations) priorities
-  charged l =
-      changed-fewer _ _ (min n max-stations) max-stations priorities (pos 0) (omega arith)
+  -- what all eight become is what those become that the list has, where one that is not picked and not ready stays as it is
+  all-changed : {A : Type 0} (f : Bool → Bool → A → A) (xs : List A) (d : A) → ((x : A) → f false false x ≡ x) → p .station < min n max-stations
+      → changed (λ j. f (eqb j (p .station)) (getD all j false)) max-stations xs
+      ≡ changed (λ j. f (eqb j (p .station)) (ready (narrow list) s j)) (min n max-stations) xs
+  all-changed f xs d stays l =
+      changed-fewer _ _ (min n max-stations) max-stations xs d (omega arith)
       (λ j below. rw (ready-here j))
-      (λ j x past. rw (ne-eqb j (p .station) (λ e. omega arith), resting j past))
+      (λ j x past. rw (ne-eqb j (p .station) (λ e. omega arith), resting j past) (stays x))
+
+  -- so with the charge and with the counts
+  pub charged : p .station < min n max-stations
+      → changed (λ j. held-charge (eqb j (p .station)) (getD all j false) (p .reset)) max-stations priorities
+      ≡ changed (λ j. held-charge (eqb j (p .station)) (ready (narrow list) s j) (p .reset)) (min n max-stations) priorities
+  charged = all-changed (λ picked ready. held-charge picked ready (p .reset)) priorities (pos 0) (λ x. refl)
+
+  pub counted : p .station < min n max-stations
+      → changed (λ j. held-count (eqb j (p .station)) (getD all j false)) max-stations counts
+      ≡ changed (λ j. held-count (eqb j (p .station)) (ready (narrow list) s j)) (min n max-stations) counts
+  counted = all-changed held-count counts 0 (λ x. refl)

@@ -1,4 +1,4 @@
-// One pick, of the parts of a state: its tests, and the charge and the move of the station picked. The parts are changed where
+// One pick, of the parts of a state: its tests, and the charge, the counts and the move of the station picked. The parts are changed where
 // they are. Whatever is judged before the step is judged before anything is written, and the last test is made before a body runs.
 ghost use mathlib.Core.Path.{_≡_};
 ghost use Rattle.laws.specs.Narrow.{narrow};
@@ -12,12 +12,13 @@ pub fn pick(
     vars: &mut [u32; 32],
     positions: &mut [u16; 8],
     priorities: &mut [i16; 8],
+    counts: &mut [u16; 8],
     n: u8,
     b: u8,
     station: u8,
     reset: u8,
 ) -> u8
-    ensures { λ r. ⌜ record { number = r; vars = now (vars .exit); positions = now (positions .exit); priorities = now (priorities .exit) } ≡ took (narrow (now (list .entry))) (state-of (now (vars .entry)) (now (positions .entry)) (now (priorities .entry)) n b) (record { station = station; reset = reset }) ⌝ }
+    ensures { λ r. ⌜ record { number = r; vars = now (vars .exit); positions = now (positions .exit); priorities = now (priorities .exit); counts = now (counts .exit) } ≡ took (narrow (now (list .entry))) (state-of (now (vars .entry)) (now (positions .entry)) (now (priorities .entry)) (now (counts .entry)) n b) (record { station = station; reset = reset }) ⌝ }
 {
     let at = station as usize;
     if n <= station || Record::MAX_STATIONS <= at {
@@ -35,7 +36,7 @@ pub fn pick(
     if number != 0 {
         return number;
     }
-    charging::charge(priorities, &all, at, reset);
+    charging::charge(priorities, counts, &all, at, reset);
     positions[at] = moves::step(list, vars, positions[at]);
     0
 }

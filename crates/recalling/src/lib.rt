@@ -2,11 +2,11 @@
 // place. Where there are fewer than its 184 everything is zero.
 ghost use mathlib.Core.Path.{_≡_};
 ghost use mathlib.Core.Bool.{_&&_};
-ghost use Prim.Native.Nat.{_+_, _≤_};
+ghost use Prim.Native.Nat.{_+_, _*_, _≤_};
 ghost use lib.Dec.{eqb, leb};
-ghost use lib.ListN.{length, getD};
-ghost use Rattle.rules.specs.Words.{each};
-ghost use Rattle.rules.specs.Names.{kept-length};
+ghost use lib.ListN.{length, getD, replicate};
+ghost use Rattle.rules.specs.Words.{if_then_else_, each, values};
+ghost use Rattle.rules.specs.Names.{max-stations, kept-length};
 ghost use Rattle.rules.specs.Records.{half};
 ghost use Rattle.rules.specs.Kept.{lowered, kept-zeros};
 ghost use Rattle.recalling.specs.Recalled.{recalled};
@@ -33,16 +33,7 @@ pub fn vars(part: &[u8]) -> [u32; 32]
 pub fn positions(part: &[u8]) -> [u16; 8]
     ensures { λ r. ⌜ r ≡ recalled (now (part .entry)) .positions ⌝ }
 {
-    let mut positions = [0u16; 8];
-    if part.len() < Record::KEPT_LENGTH {
-        return positions;
-    }
-    let mut j: usize = 0;
-    while j < Record::MAX_STATIONS {
-        positions[j] = half_at(part, Record::KEPT_POSITIONS + 2 * j);
-        j += 1;
-    }
-    positions
+    row_at(part, Record::KEPT_POSITIONS)
 }
 
 // The state's priorities.
@@ -59,6 +50,13 @@ pub fn priorities(part: &[u8]) -> [i16; 8]
         j += 1;
     }
     priorities
+}
+
+// The state's counts.
+pub fn counts(part: &[u8]) -> [u16; 8]
+    ensures { λ r. ⌜ r ≡ recalled (now (part .entry)) .counts ⌝ }
+{
+    row_at(part, Record::KEPT_COUNTS)
 }
 
 // The state's n.
@@ -100,14 +98,9 @@ pub fn zeros(part: &[u8]) -> bool
     }
     zero_from(
         part,
-        Record::KEPT_COUNTS,
-        Record::KEPT_N - Record::KEPT_COUNTS,
+        Record::KEPT_ORDER,
+        Record::KEPT_LENGTH - Record::KEPT_ORDER,
     )
-        && zero_from(
-            part,
-            Record::KEPT_ORDER,
-            Record::KEPT_LENGTH - Record::KEPT_ORDER,
-        )
 }
 
 // Whether so many bytes from an offset on are zero.
@@ -123,6 +116,23 @@ fn zero_from(part: &[u8], at: usize, count: usize) -> bool
         i += 1;
     }
     true
+}
+
+// The numbers of the stations that are kept from an offset on, two bytes each.
+fn row_at(part: &[u8], at: usize) -> [u16; 8]
+    requires { ⌜ at + 2 * max-stations ≤ kept-length ⌝ }
+    ensures { λ r. ⌜ r ≡ (if leb kept-length (length (now (part .entry))) then values (λ j. half (now (part .entry)) (at + 2 * j)) max-stations else replicate max-stations 0) ⌝ }
+{
+    let mut row = [0u16; 8];
+    if part.len() < Record::KEPT_LENGTH {
+        return row;
+    }
+    let mut j: usize = 0;
+    while j < Record::MAX_STATIONS {
+        row[j] = half_at(part, at + 2 * j);
+        j += 1;
+    }
+    row
 }
 
 // Two bytes from an offset on, low byte first.

@@ -93,7 +93,7 @@ impl Record {
     // Bytes of a kept state.
     pub const KEPT_LENGTH: usize = 184;
 
-    // Where the parts of a kept state begin, behind the variables at its front: the positions, the priorities, the bytes for counts, n with B
+    // Where the parts of a kept state begin, behind the variables at its front: the positions, the priorities, the counts, n with B
     // and m behind it, and the bytes for an order.
     pub const KEPT_POSITIONS: usize = 128;
 

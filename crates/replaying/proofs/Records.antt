@@ -12,7 +12,7 @@ use Rattle.picking.specs.Took.{Took, state-of, took}
 use Rattle.replaying.specs.Replayed.{took-from}
 
 module _ (list log : List ℕ) (n b i : ℕ) (t : Took) {a : Took}
-    (is : a ≡ took (narrow list) (state-of (t .vars) (t .positions) (t .priorities) n b) (pick-at log i)) where
+    (is : a ≡ took (narrow list) (state-of (t .vars) (t .positions) (t .priorities) (t .counts) n b) (pick-at log i)) where
   -- the next record is taken
   pub from-taken : (left : ℕ) → 0 < left → a .number ≡ 0 → took-from list log n b i left t ≡ took-from list log n b (i + 1) (left - 1) a
   unfolding took-from

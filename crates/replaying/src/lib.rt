@@ -21,12 +21,13 @@ pub fn replay(
     vars: &mut [u32; 32],
     positions: &mut [u16; 8],
     priorities: &mut [i16; 8],
+    counts: &mut [u16; 8],
     n: u8,
     b: u8,
     first: u16,
     count: u16,
 ) -> u8
-    ensures { λ r. ⌜ record { number = r; vars = now (vars .exit); positions = now (positions .exit); priorities = now (priorities .exit) } ≡ took-from (now (list .entry)) (now (log .entry)) n b first count (record { number = 0; vars = now (vars .entry); positions = now (positions .entry); priorities = now (priorities .entry) }) ⌝ }
+    ensures { λ r. ⌜ record { number = r; vars = now (vars .exit); positions = now (positions .exit); priorities = now (priorities .exit); counts = now (counts .exit) } ≡ took-from (now (list .entry)) (now (log .entry)) n b first count (record { number = 0; vars = now (vars .entry); positions = now (positions .entry); priorities = now (priorities .entry); counts = now (counts .entry) }) ⌝ }
 {
     let mut i = first as usize;
     let mut left = count as usize;
@@ -37,6 +38,7 @@ pub fn replay(
             vars,
             positions,
             priorities,
+            counts,
             n,
             b,
             byte(log, at),

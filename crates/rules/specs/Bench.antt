@@ -4,7 +4,7 @@
 -- Assumes nothing.
 use Prim.Native.Nat.{ℕ, _+_, _-_, _*_}
 use mathlib.Core.Path.{_≡_, refl}
-use mathlib.Core.Bool.{Bool, true}
+use mathlib.Core.Bool.{Bool, true, false}
 use mathlib.Core.List.{List, [], _∷_, _++_}
 use mathlib.Core.Option.{Option, none, some}
 use lib.ListN.{length, take, replicate}
@@ -18,22 +18,22 @@ use Rattle.rules.specs.Check.{check, wrong-length, field-place, station-
 use Rattle.rules.specs.Trees.{parts-of, stations-of, leading-sets, initial-part, size}
 use Rattle.rules.specs.Build.{laid, inits, bodies, list-of, bytes-of, build}
 use Rattle.rules.specs.List.{stations, initials-after, is-at, init-right, initial-right, outside-targets, inside-target, inside-targets, later-right, sound-list}
-use Rattle.rules.specs.State.{State, zeros, few-low, empty-at, sound-state}
+use Rattle.rules.specs.State.{State, count, zeros, few-low, empty-at, sound-state}
 use Rattle.rules.specs.Values.{set-value, holds}
 use Rattle.rules.specs.Start.{initial-run, started, start-records, start}
 use Rattle.rules.specs.Ready.{readiness-at, readiness, ended, waiting, ready, lowest}
 use Rattle.rules.specs.Move.{body-run, step-vars, step-position}
-use Rattle.rules.specs.Step.{charge, stepped, picked, step}
+use Rattle.rules.specs.Step.{charge, counts-after, stepped, picked, step}
 use Rattle.rules.specs.Kept.{encoded, kept-state, kept-zeros, kept-right, keep}
 use Rattle.rules.specs.Run.{steps-from, run}
 use Rattle.rules.specs.Undo.{replay, starts-right, restarted, replayed-near, undo}
 use Rattle.rules.specs.Asked.{asked}
 use Rattle.rules.specs.Lights.{reads, writes, led-to, body, some-of, touches, lights}
 use Rattle.rules.specs.Why.{Why, bare, waits-for, first-in-turn, reason, why}
-use Rattle.rules.specs.Trace.{decimal-digits, priorities-text, line, end-line, taken-pick, picks-text, run-text, start-text, trace}
+use Rattle.rules.specs.Trace.{decimal-digits, entries-text, line, end-line, taken-pick, picks-text, run-text, start-text, trace}
 use Rattle.rules.specs.Calls.{ruled}
 use Rattle.rules.specs.History.{Call, START, STEP, RUN, UNDO, Steps, height, Now, stepped-on, single-steps, called, calls-from, answered}
-use Rattle.rules.specs.Passed.{passed-over}
+use Rattle.rules.specs.Passed.{passed-over, since-pick}
 
 infixr 5 _and_
 -- the eight bytes of a record
@@ -79,16 +79,22 @@ abbrev passed-in : List ℕ → ℕ → Option Steps → ℕ
 passed-in list j none = 0
 passed-in list j (some steps) = passed-over list j steps (height steps)
 
+-- and since its last pick
+abbrev passed-since : List ℕ → ℕ → Option Steps → ℕ
+passed-since list j none = 0
+passed-since list j (some steps) = passed-over list j steps (since-pick j steps)
+
 abbrev pick : ℕ → ℕ → Call
 pick station reset = STEP (record { station = station; reset = reset })
 
 -- a state of two stations or one, the zeros left out
-abbrev stands : List ℕ → List ℕ → List ℤ → ℕ → ℕ → State
-stands vars positions priorities b m =
+abbrev stands : List ℕ → List ℕ → List ℤ → List ℕ → ℕ → ℕ → State
+stands vars positions priorities counts b m =
     record {
       vars = vars ++ replicate (variables - length vars) 0;
       positions = positions ++ replicate (max-stations - length positions) 0;
       priorities = priorities ++ replicate (max-stations - length priorities) (pos 0);
+      counts = counts ++ replicate (max-stations - length counts) 0;
       n = length positions;
       b = b;
       m = m;
@@ -130,6 +136,10 @@ data Row : Type 0 where
   leaves : List ℕ → List Call → ℕ → Row
   -- a file, calls on its list, and a station; how often it was ready and passed over in the steps that stand after them
   passes : List ℕ → List Call → ℕ → ℕ → Row
+  -- a file, and calls on its list; each station's count in the last state answered, which is how often it was passed over since its last pick
+  counts-passed : List ℕ → List Call → List ℕ → Row
+  -- a file, and a state; whether it is sound against the file's list
+  sound : List ℕ → State → Bool → Row
   -- a file, a start's B and resets, calls after it, and a station; that this was B+n-1 times
   passes-most : List ℕ → ℕ → List ℕ → List Call → ℕ → Row
   -- a file, and calls on its list; what the readiness of each station, and of one more, tells in the last state answered
@@ -151,6 +161,11 @@ Holds (plays-long file cs rows) = answers (list-made file) fresh-long cs ≡ row
 Holds (keeps file cs bytes) = take (kept-length + 1) (calls-from ruled (list-made file) fresh-long cs .lent .kept) ≡ bytes
 Holds (leaves file cs count) = height-of (calls-from ruled (list-made file) fresh cs .standing) ≡ count
 Holds (passes file cs j times) = passed-in (list-made file) j (calls-from ruled (list-made file) fresh cs .standing) ≡ times
+Holds (counts-passed file cs times) =
+    let now = calls-from ruled (list-made file) fresh cs in
+    (values (count (now .state)) (now .state .n) ∷ values (λ j. passed-since (list-made file) j (now .standing)) (now .state .n) ∷ [])
+    ≡ times ∷ times ∷ []
+Holds (sound file s answer) = sound-state (list-made file) s ≡ answer
 Holds (passes-most file b resets cs j) =
     passed-in (list-made file) j (calls-from ruled (list-made file) fresh (START b resets ∷ cs) .standing) ≡ b + stations (list-made file) - 1
 Holds (tells file cs told) =
@@ -200,33 +215,48 @@ counter = plain STATION ++ eight WHILE 0 0 4 0 ++ eight SET 0 0 2 1 ++ plain OD
 
 -- its states at the WHILE, and at the SET: what v0 has come to, the priority and the steps
 abbrev at-while : ℕ → ℕ → ℕ → State
-at-while v priority m = stands (v ∷ []) (1 ∷ []) (pos priority ∷ []) 1 m
+at-while v priority m = stands (v ∷ []) (1 ∷ []) (pos priority ∷ []) [] 1 m
 
 abbrev at-set : ℕ → ℕ → ℕ → State
-at-set v priority m = stands (v ∷ []) (2 ∷ []) (pos priority ∷ []) 1 m
+at-set v priority m = stands (v ∷ []) (2 ∷ []) (pos priority ∷ []) [] 1 m
 
 -- Dryer's states with no step, one step and two
 abbrev dryer-0 : State
-dryer-0 = stands (0 ∷ []) (2 ∷ 4 ∷ []) (pos 0 ∷ pos 0 ∷ []) 0 0
+dryer-0 = stands (0 ∷ []) (2 ∷ 4 ∷ []) (pos 0 ∷ pos 0 ∷ []) [] 0 0
 
 abbrev dryer-1 : State
-dryer-1 = stands (1 ∷ []) (3 ∷ 4 ∷ []) (pos 0 ∷ pos 0 ∷ []) 0 1
+dryer-1 = stands (1 ∷ []) (3 ∷ 4 ∷ []) (pos 0 ∷ pos 0 ∷ []) [] 0 1
 
 abbrev dryer-2 : State
-dryer-2 = stands (2 ∷ []) (3 ∷ 6 ∷ []) (pos 0 ∷ pos 0 ∷ []) 0 2
+dryer-2 = stands (2 ∷ []) (3 ∷ 6 ∷ []) (pos 0 ∷ pos 0 ∷ []) [] 0 2
 
 -- the pair's states along P10's picks
 abbrev pair-0 : State
-pair-0 = stands [] (2 ∷ 5 ∷ []) (pos 0 ∷ pos 1 ∷ []) 1 0
+pair-0 = stands [] (2 ∷ 5 ∷ []) (pos 0 ∷ pos 1 ∷ []) [] 1 0
 
 abbrev pair-1 : State
-pair-1 = stands [] (3 ∷ 5 ∷ []) (pos 0 ∷ pos 0 ∷ []) 1 1
+pair-1 = stands [] (3 ∷ 5 ∷ []) (pos 0 ∷ pos 0 ∷ []) (0 ∷ 1 ∷ []) 1 1
 
 abbrev pair-2 : State
-pair-2 = stands [] (2 ∷ 5 ∷ []) (pos 0 ∷ negsuc 0 ∷ []) 1 2
+pair-2 = stands [] (2 ∷ 5 ∷ []) (pos 0 ∷ negsuc 0 ∷ []) (0 ∷ 2 ∷ []) 1 2
 
 abbrev pair-3 : State
-pair-3 = stands [] (2 ∷ 6 ∷ []) (negsuc 0 ∷ pos 1 ∷ []) 1 3
+pair-3 = stands [] (2 ∷ 6 ∷ []) (negsuc 0 ∷ pos 1 ∷ []) (1 ∷ 0 ∷ []) 1 3
+
+-- P10's state after two picks, with other counts
+abbrev pair-counting : List ℕ → State
+pair-counting counts = stands [] (2 ∷ 5 ∷ []) (pos 0 ∷ negsuc 0 ∷ []) counts 1 2
+
+-- ours: STATION; SET v0 := 1; SKIP; SET v0 := 0; SKIP; STATION; AWAIT v0 = 0; SKIP; END. Station 1 is ready, then it waits, and then it is
+-- ready again
+abbrev flicker : List ℕ
+flicker =
+    plain STATION ++ eight SET 0 0 0 1 ++ plain SKIP ++ eight SET 0 0 0 0 ++ plain SKIP
+    ++ plain STATION ++ eight AWAIT 0 0 0 0 ++ plain SKIP ++ plain END
+
+-- its states before station 1 is picked: v0, station 0's position, station 1's priority and count, and the steps
+abbrev flicker-at : ℕ → ℕ → ℕ → ℕ → ℕ → State
+flicker-at v position priority count m = stands (v ∷ []) (position ∷ 7 ∷ []) (pos 0 ∷ pos priority ∷ []) (0 ∷ count ∷ []) 3 m
 
 abbrev table : List Row
 table =
@@ -253,13 +283,23 @@ table =
     ∷ right (eight SET 0 0 4 31) true
     -- P9 zero minus 1 is 4,294,967,295
     ∷ plays (plain STATION ++ eight SET 0 0 3 1) (START 0 (0 ∷ []) ∷ pick 0 0 ∷ [])
-    (goes (stands (0 ∷ []) (1 ∷ []) (pos 0 ∷ []) 0 0) ∷ goes (stands (4294967295 ∷ []) (2 ∷ []) (pos 0 ∷ []) 0 1) ∷ [])
+    (goes (stands (0 ∷ []) (1 ∷ []) (pos 0 ∷ []) [] 0 0) ∷ goes (stands (4294967295 ∷ []) (2 ∷ []) (pos 0 ∷ []) [] 0 1) ∷ [])
     -- P10 … Picks (0,0), (0,0) give priorities 0 and -1; picking 0 is then TURN; pick (1,1) gives -1 and 1
     ∷ plays pair (START 1 (0 ∷ 1 ∷ []) ∷ pick 0 0 ∷ pick 0 0 ∷ pick 0 0 ∷ pick 1 1 ∷ [])
     (goes pair-0 ∷ goes pair-1 ∷ goes pair-2 ∷ refused TURN pair-2 ∷ goes pair-3 ∷ [])
     -- Station 1 was passed over twice, which is B+n-1
     ∷ passes pair (START 1 (0 ∷ 1 ∷ []) ∷ pick 0 0 ∷ pick 0 0 ∷ pick 0 0 ∷ pick 1 1 ∷ []) 1 2
     ∷ passes-most pair 1 (0 ∷ 1 ∷ []) (pick 0 0 ∷ pick 0 0 ∷ pick 0 0 ∷ pick 1 1 ∷ []) 1
+    -- ours: which its count says before its pick
+    ∷ counts-passed pair (START 1 (0 ∷ 1 ∷ []) ∷ pick 0 0 ∷ pick 0 0 ∷ []) (0 ∷ 2 ∷ [])
+    -- ours: and after it: then it is station 0 that was passed over, once
+    ∷ counts-passed pair (START 1 (0 ∷ 1 ∷ []) ∷ pick 0 0 ∷ pick 0 0 ∷ pick 1 1 ∷ []) (1 ∷ 0 ∷ [])
+    -- ours: priority plus count is B before it; at B+1 it is not sound, nor with a count past its stations
+    ∷ sound pair (pair-counting (0 ∷ 2 ∷ [])) true
+    ∷ sound pair (pair-counting (1 ∷ 2 ∷ [])) true
+    ∷ sound pair (pair-counting (0 ∷ 3 ∷ [])) false
+    ∷ sound pair (pair-counting (2 ∷ 2 ∷ [])) false
+    ∷ sound pair (pair-counting (0 ∷ 2 ∷ 1 ∷ [])) false
     -- ours: and back, each undo gives back the whole state before the step
     ∷ plays pair (START 1 (0 ∷ 1 ∷ []) ∷ pick 0 0 ∷ pick 0 0 ∷ pick 1 1 ∷ UNDO ∷ UNDO ∷ UNDO ∷ [])
     (goes pair-0 ∷ goes pair-1 ∷ goes pair-2 ∷ goes pair-3 ∷ goes pair-2 ∷ goes pair-1 ∷ goes pair-0 ∷ [])
@@ -311,16 +351,24 @@ table =
     ∷ lights-up feeder (START 0 (0 ∷ 0 ∷ []) ∷ pick 0 0 ∷ UNDO ∷ []) (2 ∷ 2 ∷ []) (1 ∷ [])
     -- ours: while it waits it is not passed over, though the step releases it
     ∷ passes dryer (START 0 (0 ∷ 0 ∷ []) ∷ pick 0 0 ∷ []) 1 0
+    -- ours: a count stays where a station waits, also in the step that releases it, and goes on from there; its pick clears it, and the undo of
+    -- that gives it back
+    ∷ plays flicker (START 3 (0 ∷ 3 ∷ []) ∷ pick 0 0 ∷ pick 0 0 ∷ pick 0 0 ∷ pick 0 0 ∷ pick 1 2 ∷ UNDO ∷ UNDO ∷ [])
+    (goes (flicker-at 0 2 3 0 0) ∷ goes (flicker-at 1 3 2 1 1) ∷ goes (flicker-at 1 4 2 1 2) ∷ goes (flicker-at 0 5 2 1 3) ∷ goes (flicker-at 0 6 1 2 4)
+    ∷ goes (stands (0 ∷ []) (6 ∷ 9 ∷ []) (pos 0 ∷ pos 2 ∷ []) [] 3 5) ∷ goes (flicker-at 0 6 1 2 4) ∷ goes (flicker-at 0 5 2 1 3) ∷ [])
+    ∷ counts-passed flicker (START 3 (0 ∷ 3 ∷ []) ∷ pick 0 0 ∷ pick 0 0 ∷ pick 0 0 ∷ pick 0 0 ∷ []) (0 ∷ 2 ∷ [])
+    -- ours: and its refused pick, while it waits, leaves it
+    ∷ counts-passed flicker (START 3 (0 ∷ 3 ∷ []) ∷ pick 0 0 ∷ pick 1 1 ∷ []) (0 ∷ 1 ∷ [])
     -- P12 "Dryer": picks 0, 1, then two undos give back the start state
     ∷ plays dryer (START 0 (0 ∷ 0 ∷ []) ∷ pick 0 0 ∷ pick 1 0 ∷ UNDO ∷ UNDO ∷ [])
     (goes dryer-0 ∷ goes dryer-1 ∷ goes dryer-2 ∷ goes dryer-1 ∷ goes dryer-0 ∷ [])
     -- ours: and then none stands
     ∷ leaves dryer (START 0 (0 ∷ 0 ∷ []) ∷ pick 0 0 ∷ pick 1 0 ∷ UNDO ∷ UNDO ∷ []) 0
     -- ours: the kept place of the pair after 64 steps, station by station in turn: variables, positions 2 and 5, priorities -1 and 0 and six
-    -- zeros more, each 32,768 higher, bytes for counts, n = 2, B = 0, m = 64, bytes for an order; behind it junk
+    -- zeros more, each 32,768 higher, counts 1 and 0, n = 2, B = 0, m = 64, bytes for an order; behind it junk
     ∷ keeps pair (START 0 (0 ∷ 0 ∷ []) ∷ RUN (joined (λ pick. pick) (replicate 32 (0 ∷ 0 ∷ 1 ∷ 0 ∷ []))) 99 ∷ [])
     (replicate 128 0 ++ (2 ∷ 0 ∷ 5 ∷ 0 ∷ replicate 12 0) ++ (255 ∷ 127 ∷ joined (λ zero. zero) (replicate 7 (0 ∷ 128 ∷ [])))
-    ++ replicate 16 0 ++ (2 ∷ 0 ∷ 64 ∷ 0 ∷ []) ++ replicate 4 0 ++ (7 ∷ []))
+    ++ (1 ∷ replicate 15 0) ++ (2 ∷ 0 ∷ 64 ∷ 0 ∷ []) ++ replicate 4 0 ++ (7 ∷ []))
     -- ours: 66 steps, and back past the 64th, over a buffer of junk: each undo gives back the whole state before the step
     ∷ plays-long counter (START 1 (0 ∷ []) ∷ RUN (replicate 132 0) 99 ∷ UNDO ∷ UNDO ∷ UNDO ∷ [])
     (goes (at-while 0 0 0) ∷ goes (at-while 33 0 66) ∷ goes (at-set 32 0 65) ∷ goes (at-while 32 0 64) ∷ goes (at-set 31 0 63) ∷ [])
@@ -330,23 +378,33 @@ table =
     ∷ goes (at-set 32 0 65) ∷ goes (at-while 32 1 64) ∷ [])
     -- ours: "A refused start's zeros don't count as a state answered"
     ∷ plays dryer (START 0 (0 ∷ 0 ∷ []) ∷ pick 0 0 ∷ START 0 [] ∷ []) (goes dryer-0 ∷ goes dryer-1 ∷ refused RESET dryer-1 ∷ [])
-    -- "Dryer" with picks (0,0) (1,0) (255,0) (255,0) prints: 0 1 1 0 0; 1 2 2 0 0; 2 0 0 0 0; 1 2 2 0 0; 0 1 1 0 0; end 0
+    -- "Dryer" with picks (0,0) (1,0) (255,0) (255,0) prints: 0 1 1 0 0; 1 2 2 0 0; 2 0 0 0 0; 1 2 2 0 0; 0 1 1 0 0; end 0; now with two counts more
     ∷ prints dryer (0 ∷ 0 ∷ 0 ∷ []) (0 ∷ 0 ∷ 1 ∷ 0 ∷ 255 ∷ 0 ∷ 255 ∷ 0 ∷ [])
-    ((48 ∷ 32 ∷ 49 ∷ 32 ∷ 49 ∷ 32 ∷ 48 ∷ 32 ∷ 48 ∷ 10 ∷ [])
-    ++ (49 ∷ 32 ∷ 50 ∷ 32 ∷ 50 ∷ 32 ∷ 48 ∷ 32 ∷ 48 ∷ 10 ∷ [])
-    ++ (50 ∷ 32 ∷ 48 ∷ 32 ∷ 48 ∷ 32 ∷ 48 ∷ 32 ∷ 48 ∷ 10 ∷ [])
-    ++ (49 ∷ 32 ∷ 50 ∷ 32 ∷ 50 ∷ 32 ∷ 48 ∷ 32 ∷ 48 ∷ 10 ∷ [])
-    ++ (48 ∷ 32 ∷ 49 ∷ 32 ∷ 49 ∷ 32 ∷ 48 ∷ 32 ∷ 48 ∷ 10 ∷ [])
+    ((48 ∷ 32 ∷ 49 ∷ 32 ∷ 49 ∷ 32 ∷ 48 ∷ 32 ∷ 48 ∷ 32 ∷ 48 ∷ 32 ∷ 48 ∷ 10 ∷ [])
+    ++ (49 ∷ 32 ∷ 50 ∷ 32 ∷ 50 ∷ 32 ∷ 48 ∷ 32 ∷ 48 ∷ 32 ∷ 48 ∷ 32 ∷ 48 ∷ 10 ∷ [])
+    ++ (50 ∷ 32 ∷ 48 ∷ 32 ∷ 48 ∷ 32 ∷ 48 ∷ 32 ∷ 48 ∷ 32 ∷ 48 ∷ 32 ∷ 48 ∷ 10 ∷ [])
+    ++ (49 ∷ 32 ∷ 50 ∷ 32 ∷ 50 ∷ 32 ∷ 48 ∷ 32 ∷ 48 ∷ 32 ∷ 48 ∷ 32 ∷ 48 ∷ 10 ∷ [])
+    ++ (48 ∷ 32 ∷ 49 ∷ 32 ∷ 49 ∷ 32 ∷ 48 ∷ 32 ∷ 48 ∷ 32 ∷ 48 ∷ 32 ∷ 48 ∷ 10 ∷ [])
     ++ (101 ∷ 110 ∷ 100 ∷ 32 ∷ 48 ∷ 10 ∷ []))
-    -- ours: and with picks (0,0) (0,0): 0 1 1 0 0; 1 2 2 0 0; end 16
+    -- ours: and with picks (0,0) (0,0): 0 1 1 0 0 0 0; 1 2 2 0 0 0 0; end 16
     ∷ prints dryer (0 ∷ 0 ∷ 0 ∷ []) (0 ∷ 0 ∷ 0 ∷ 0 ∷ [])
-    ((48 ∷ 32 ∷ 49 ∷ 32 ∷ 49 ∷ 32 ∷ 48 ∷ 32 ∷ 48 ∷ 10 ∷ [])
-    ++ (49 ∷ 32 ∷ 50 ∷ 32 ∷ 50 ∷ 32 ∷ 48 ∷ 32 ∷ 48 ∷ 10 ∷ [])
+    ((48 ∷ 32 ∷ 49 ∷ 32 ∷ 49 ∷ 32 ∷ 48 ∷ 32 ∷ 48 ∷ 32 ∷ 48 ∷ 32 ∷ 48 ∷ 10 ∷ [])
+    ++ (49 ∷ 32 ∷ 50 ∷ 32 ∷ 50 ∷ 32 ∷ 48 ∷ 32 ∷ 48 ∷ 32 ∷ 48 ∷ 32 ∷ 48 ∷ 10 ∷ [])
     ++ (101 ∷ 110 ∷ 100 ∷ 32 ∷ 49 ∷ 54 ∷ 10 ∷ []))
+    -- ours: P10's pair with picks (0,0) (0,0) (1,1), and back: 0 3 1 0 1 0 0; 1 3 3 0 0 0 1; 2 3 2 0 -1 0 2; 3 3 1 -1 1 1 0; and the third again; end 0
+    ∷ prints pair (1 ∷ 0 ∷ 1 ∷ []) (0 ∷ 0 ∷ 0 ∷ 0 ∷ 1 ∷ 1 ∷ 255 ∷ 0 ∷ [])
+    ((48 ∷ 32 ∷ 51 ∷ 32 ∷ 49 ∷ 32 ∷ 48 ∷ 32 ∷ 49 ∷ 32 ∷ 48 ∷ 32 ∷ 48 ∷ 10 ∷ [])
+    ++ (49 ∷ 32 ∷ 51 ∷ 32 ∷ 51 ∷ 32 ∷ 48 ∷ 32 ∷ 48 ∷ 32 ∷ 48 ∷ 32 ∷ 49 ∷ 10 ∷ [])
+    ++ (50 ∷ 32 ∷ 51 ∷ 32 ∷ 50 ∷ 32 ∷ 48 ∷ 32 ∷ 45 ∷ 49 ∷ 32 ∷ 48 ∷ 32 ∷ 50 ∷ 10 ∷ [])
+    ++ (51 ∷ 32 ∷ 51 ∷ 32 ∷ 49 ∷ 32 ∷ 45 ∷ 49 ∷ 32 ∷ 49 ∷ 32 ∷ 49 ∷ 32 ∷ 48 ∷ 10 ∷ [])
+    ++ (50 ∷ 32 ∷ 51 ∷ 32 ∷ 50 ∷ 32 ∷ 48 ∷ 32 ∷ 45 ∷ 49 ∷ 32 ∷ 48 ∷ 32 ∷ 50 ∷ 10 ∷ [])
+    ++ (101 ∷ 110 ∷ 100 ∷ 32 ∷ 48 ∷ 10 ∷ []))
     ∷ []
 
 all-hold : Every table
-unfolding each first tally mask values changed joined written judge record-from list-record-at rules-of fields-right stride wrong-at walked well-shaped too-deep-at check wrong-length field-place station-count depth-place parts-of stations-of leading-sets initial-part size laid inits bodies list-of bytes-of build stations initials-after is-at init-right initial-right outside-targets inside-target inside-targets later-right sound-list few-low empty-at sound-state set-value holds initial-run started start-records start readiness-at readiness ended waiting ready lowest body-run step-vars step-position charge stepped picked encoded kept-state kept-zeros kept-right keep step steps-from run replay starts-right restarted replayed-near undo asked waits-for first-in-turn reason why reads writes led-to body some-of touches lights decimal-digits priorities-text line end-line taken-pick picks-text run-text start-text trace stepped-on single-steps called calls-from answers passed-over
+unfolding each first tally mask values changed joined written judge record-from list-record-at rules-of fields-right stride wrong-at walked well-shaped too-deep-at check wrong-length field-place station-count depth-place parts-of stations-of leading-sets initial-part size laid inits bodies list-of bytes-of build stations initials-after is-at init-right initial-right outside-targets inside-target inside-targets later-right sound-list few-low empty-at sound-state set-value holds initial-run started start-records start readiness-at readiness ended waiting ready lowest body-run step-vars step-position charge counts-after stepped picked encoded kept-state kept-zeros kept-right keep step steps-from run replay starts-right restarted replayed-near undo asked waits-for first-in-turn reason why reads writes led-to body some-of touches lights decimal-digits entries-text line end-line taken-pick picks-text run-text start-text trace stepped-on single-steps called calls-from answers passed-over since-pick
 all-hold =
     refl and refl and refl and refl and refl and refl and refl and refl and refl and refl
-    and refl and refl and refl and refl and refl and refl and refl and refl and refl and refl and refl and refl and refl and refl and refl and refl and refl and refl and refl and refl and refl and refl and refl and refl and refl and refl and refl and refl and refl and refl and refl and refl and refl and done
+    and refl and refl and refl and refl and refl and refl and refl and refl and refl and refl and refl and refl and refl and refl and refl and refl and refl and refl and refl and refl
+    and refl and refl and refl and refl and refl and refl and refl and refl and refl and refl and refl and refl and refl and refl and refl and refl and refl and refl and refl and refl
+    and refl and refl and refl and refl and done

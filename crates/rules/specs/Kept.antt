@@ -41,7 +41,7 @@ encoded s =
     joined in-four (s .vars)
     ++ joined in-two (s .positions)
     ++ joined (λ z. in-two (raised z)) (s .priorities)
-    ++ replicate 16 0
+    ++ joined in-two (s .counts)
     ++ (s .n ∷ s .b ∷ in-two (s .m))
     ++ replicate 4 0
 
@@ -53,6 +53,7 @@ kept-state kept j =
       vars = values (λ v. word kept (at + 4 * v)) variables;
       positions = values (λ i. half kept (at + 128 + 2 * i)) max-stations;
       priorities = values (λ i. lowered (half kept (at + 144 + 2 * i))) max-stations;
+      counts = values (λ i. half kept (at + 160 + 2 * i)) max-stations;
       n = getD kept (at + 176) 0;
       b = getD kept (at + 177) 0;
       m = half kept (at + 178);
@@ -62,7 +63,7 @@ kept-state kept j =
 unfoldable pub kept-zeros : List ℕ → ℕ → Bool
 kept-zeros kept j =
     let at = kept-offset j in
-    each (λ i. eqb (getD kept (at + 160 + i) 0) 0) 16 && each (λ i. eqb (getD kept (at + 180 + i) 0) 0) 4
+    each (λ i. eqb (getD kept (at + 180 + i) 0) 0) 4
 
 -- "for the kept state used if it is not sound or its m or B is another than its place and the state given say" is what it is not, and bytes that
 -- are to be zero are

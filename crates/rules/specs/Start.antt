@@ -10,7 +10,7 @@ use Rattle.rules.specs.Names.{LIST, RESET, ROOM, variables, max-stations
 use Rattle.rules.specs.Records.{list-record-at}
 use Rattle.rules.specs.List.{stations, initials, sound-list}
 use Rattle.rules.specs.Values.{assigned}
-use Rattle.rules.specs.State.{State, stepless, zeros}
+use Rattle.rules.specs.State.{State, stepless, no-counts, zeros}
 use Rattle.rules.specs.Lent.{Lent}
 use Rattle.rules.specs.Kept.{kept-short}
 
@@ -20,7 +20,8 @@ initial-run list place zero vars = vars
 initial-run list place (suc count) vars =
     initial-run list (suc place) count (assigned vars (list-record-at list place .own))
 
--- "It runs the initial part and sets priorities to the resets": the state with no steps; each station stands at its INIT's t1
+-- "It runs the initial part and sets priorities to the resets": the state with no steps; each station stands at its INIT's t1, and none was
+-- passed over
 unfoldable pub started : List ℕ → ℕ → List ℕ → State
 started list b resets =
     let n = stations list in
@@ -28,7 +29,7 @@ started list b resets =
     (initial-run list n (initials list) (replicate variables 0))
     (values (λ j. list-record-at list j .t1) n ++ replicate (max-stations - n) 0)
     (map pos resets ++ replicate (max-stations - n) (pos 0))
-    n b
+    no-counts n b
 
 -- "n start records": station j and its reset, from station j on
 unfoldable pub start-records : ℕ → List ℕ → List ℕ

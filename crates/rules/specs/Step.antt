@@ -1,5 +1,5 @@
--- One step: a pick, its tests in their order, the move of its station, FAIR's charge, its record in the log and the state that is kept. These
--- are definitions.
+-- One step: a pick, its tests in their order, the move of its station, FAIR's charge, the counts, its record in the log and the state that is
+-- kept. These are definitions.
 use Prim.Native.Nat.{ℕ, _+_, _*_}
 use mathlib.Core.Bool.{not}
 use mathlib.Core.List.{List, [], _∷_, _++_}
@@ -13,7 +13,7 @@ use Rattle.rules.specs.List.{sound-list}
 use Rattle.rules.specs.State.{State, one-step-on, sound-state}
 use Rattle.rules.specs.Lent.{Lent}
 use Rattle.rules.specs.Kept.{kept-short, keep}
-use Rattle.rules.specs.Turn.{charge-of}
+use Rattle.rules.specs.Turn.{charge-of, count-of}
 use Rattle.rules.specs.Ready.{ready, ended, waiting, lowest}
 use Rattle.rules.specs.Move.{moved}
 
@@ -21,11 +21,14 @@ use Rattle.rules.specs.Move.{moved}
 unfoldable pub charge : List ℕ → State → Pick → List ℤ
 charge list s p = charge-of (s .n) (ready list s) p (s .priorities)
 
+unfoldable pub counts-after : List ℕ → State → Pick → List ℕ
+counts-after list s p = count-of (s .n) (ready list s) p (s .counts)
+
 -- the state after the step of a pick
 unfoldable pub stepped : List ℕ → State → Pick → State
 stepped list s p =
     let after = moved list (s .vars) (s .positions) (p .station) in
-    one-step-on s (after .vars) (after .positions) (charge list s p)
+    one-step-on s (after .vars) (after .positions) (charge list s p) (counts-after list s p)
 
 -- the pick's own: 10, 16, 11, 12, 13
 abbrev pub pick-tests : List ℕ → State → Pick → List Test

@@ -9,7 +9,7 @@ use Rattle.rules.specs.Words.{if_then_else_}
 use Rattle.rules.specs.Names.{LENGTH, RESET, max-list, max-stations, max-steps, max-kept, kept-length, undo-station}
 use Rattle.rules.specs.Records.{Pick, pick-at}
 use Rattle.rules.specs.Build.{build}
-use Rattle.rules.specs.State.{State, priority}
+use Rattle.rules.specs.State.{State, priority, count}
 use Rattle.rules.specs.Lent.{Lent}
 use Rattle.rules.specs.Start.{start}
 use Rattle.rules.specs.Step.{Stepped, step}
@@ -30,16 +30,25 @@ abbrev pub signed : ℤ → List ℕ
 signed (pos x) = decimal x
 signed (negsuc x) = 45 ∷ decimal (suc x)
 
--- so many priorities, from station j on, each after a single space
-unfoldable pub priorities-text : State → ℕ → ℕ → List ℕ
-priorities-text s j zero = []
-priorities-text s j (suc count) = 32 ∷ signed (priority s j) ++ priorities-text s (suc j) count
+-- so many entries, from station j on, each after a single space
+unfoldable pub entries-text : (ℕ → List ℕ) → ℕ → ℕ → List ℕ
+entries-text entry j zero = []
+entries-text entry j (suc more) = 32 ∷ entry j ++ entries-text entry (suc j) more
 
--- "m, ready mask, in-turn mask, the n priorities, in decimal with single spaces"
+-- so many priorities, and so many counts
+abbrev pub priorities-text : State → ℕ → List ℕ
+priorities-text s = entries-text (λ j. signed (priority s j)) 0
+
+abbrev pub counts-text : State → ℕ → List ℕ
+counts-text s = entries-text (λ j. decimal (count s j)) 0
+
+-- "m, ready mask, in-turn mask, the n priorities, in decimal with single spaces", and document 02, T-05, "the first n" counts "after the
+-- priorities"
 unfoldable pub line : List ℕ → State → List ℕ
 line list s =
     let lit = lights list s in
-    decimal (s .m) ++ (32 ∷ decimal (lit .ready)) ++ (32 ∷ decimal (lit .in-turn)) ++ priorities-text s 0 (s .n) ++ (10 ∷ [])
+    decimal (s .m) ++ (32 ∷ decimal (lit .ready)) ++ (32 ∷ decimal (lit .in-turn))
+    ++ priorities-text s (s .n) ++ counts-text s (s .n) ++ (10 ∷ [])
 
 -- "The last line is `end` and 0 or the refusal that stopped it"
 unfoldable pub end-line : ℕ → List ℕ

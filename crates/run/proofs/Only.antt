@@ -21,6 +21,7 @@ of-state s =
       vars = s .vars;
       positions = s .positions;
       priorities = s .priorities;
+      counts = s .counts;
       n = s .n;
       b = s .b;
       m = s .m;

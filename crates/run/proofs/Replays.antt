@@ -1,6 +1,6 @@
 -- What an undo asks of the start records, at the number of stations that the state has; and an undo by the parts that its replay reaches.
 -- Assumes nothing.
-use Prim.Native.Nat.{ℕ, zero, suc, _+_, _-_, _*_, _≤_}
+use Prim.Native.Nat.{ℕ, zero, suc, _+_, _-_, _*_, _≤_, _<_}
 use mathlib.Core.Path.{_≡_, sym, ap, _∙_}
 use mathlib.Core.Logic.{_≢_}
 use mathlib.Core.Bool.{_&&_, true≢false}
@@ -25,9 +25,9 @@ use Rattle.laws.proofs.Choice.{by-test}
 use Rattle.laws.proofs.Passed.{kept-passed}
 use Rattle.laws.proofs.Answers.{picked-state, undo-replayed}
 use Rattle.laws.proofs.Sound.{sound-means}
-use Rattle.fair.proofs.Withdrawn.{nearest-sound}
+use Rattle.fair.proofs.Withdrawn.{nearest-held, nearest-sound}
 use Rattle.picking.specs.Took.{Took}
-use Rattle.replaying.specs.Replayed.{took-from, as-took}
+use Rattle.replaying.specs.Replayed.{took-from, took-of, as-took}
 use Rattle.replaying.proofs.Known.{replay-known}
 
 pub starts-counted : (list log : List ℕ) (b n : ℕ) → n ≡ stations list
@@ -48,7 +48,7 @@ last-decide list s lent known some room =
 -- a replay that is not refused has the stations and the largest reset that it began with, and as many steps more as it replayed
 replay-counts : (list log : List ℕ) (i count : ℕ) (s : State) → replay list log i count s .number ≡ 0
     → let r = replay list log i count s .state in
-    r ≡ of-parts (r .vars) (r .positions) (r .priorities) (s .n) (s .b) (s .m + count)
+    r ≡ of-parts (r .vars) (r .positions) (r .priorities) (r .counts) (s .n) (s .b) (s .m + count)
 unfolding replay stepped
 replay-counts list log i zero s none = let m : s .m + 0 ≡ s .m = omega arith in rw m
 replay-counts list log i (suc count) s none =
@@ -91,25 +91,24 @@ module _ (list : List ℕ) (s : State) (lent : Lent) (can : CanReplay list s len
   near-b = by-test (eqb q 0) (λ e. rw e) (λ e. rw e (kept-passed list (lent .kept) (s .b) q .0 (can .kept-used e) .b-is))
 
   -- so that a replay of its parts is the rules'
-  pub near-took : {t : Took}
-      → t ≡ took-from list (lent .log) (s .n) (s .b) (s .n + kept-every * q) count (record { number = 0; vars = near .vars; positions = near .positions; priorities = near .priorities })
+  pub near-took : s .b < 256 → {t : Took} → t ≡ took-from list (lent .log) (s .n) (s .b) (s .n + kept-every * q) count (took-of 0 near)
       → t ≡ as-took (replayed-near list lent (s .b) (s .m))
   unfolding replayed-near
-  near-took is =
-      let parts : Took = record { number = 0; vars = near .vars; positions = near .positions; priorities = near .priorities } in
+  near-took small is =
+      let parts : Took = took-of 0 near in
       let at : s .n + kept-every * q ≡ stations list + kept-every * q = omega (arith, counted) in
       let sound = nearest-sound list s lent can in
       is
       ∙ ap (λ (n : ℕ). took-from list (lent .log) n (s .b) (s .n + kept-every * q) count parts) (sym near-n)
       ∙ ap (λ (b : ℕ). took-from list (lent .log) (near .n) b (s .n + kept-every * q) count parts) (sym near-b)
-      ∙ replay-known list (lent .log) (s .n + kept-every * q) count near (record { of-list = can .of-list; of-state = sound .0 })
-      (omega (arith, sound .1, few-steps, can .some-steps))
+      ∙ replay-known list (lent .log) (s .n + kept-every * q) count near (nearest-held list lent (s .b) q (can .of-list))
+      (record { of-list = can .of-list; of-state = sound .0 }) (omega (arith, small, near-b)) (omega (arith, sound .1, few-steps, can .some-steps))
       ∙ ap (λ (i : ℕ). as-took (replay list (lent .log) i count near)) at
 
   -- and an undo gives back the parts that its replay reached, with a step less
   pub undo-took : {t : Took} → t ≡ as-took (replayed-near list lent (s .b) (s .m))
       → undo list s lent
-      ≡ (if eqb (t .number) 0 then record { number = 0; state = of-parts (t .vars) (t .positions) (t .priorities) (s .n) (s .b) (s .m - 1) }
+      ≡ (if eqb (t .number) 0 then record { number = 0; state = of-parts (t .vars) (t .positions) (t .priorities) (t .counts) (s .n) (s .b) (s .m - 1) }
       else record { number = LOG; state = s })
   unfolding replayed-near
   undo-took is =
@@ -118,8 +117,8 @@ module _ (list : List ℕ) (s : State) (lent : Lent) (can : CanReplay list s len
       ∙ by-test (eqb (r .number) 0)
       (λ e.
       let steps : near .m + count ≡ s .m - 1 = omega (arith, nearest-sound list s lent can .1, can .some-steps) in
-      let is-parts : r .state ≡ of-parts (r .state .vars) (r .state .positions) (r .state .priorities) (s .n) (s .b) (s .m - 1) =
+      let is-parts : r .state ≡ of-parts (r .state .vars) (r .state .positions) (r .state .priorities) (r .state .counts) (s .n) (s .b) (s .m - 1) =
       replay-counts list (lent .log) (stations list + kept-every * q) count near (eqb-true _ 0 e)
-      ∙ (λ i. of-parts (r .state .vars) (r .state .positions) (r .state .priorities) (near-n i) (near-b i) (steps i)) in
+      ∙ (λ i. of-parts (r .state .vars) (r .state .positions) (r .state .priorities) (r .state .counts) (near-n i) (near-b i) (steps i)) in
       rw (is, e) (ap (λ (t : State). record { number = 0; state = t }) is-parts))
       (λ e. rw (is, e))

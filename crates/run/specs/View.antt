@@ -15,6 +15,7 @@ as-state s =
       vars = s .vars;
       positions = s .positions;
       priorities = s .priorities;
+      counts = s .counts;
       n = s .n;
       b = s .b;
       m = s .m;

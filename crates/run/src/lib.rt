@@ -8,13 +8,14 @@ mod undo;
 
 pub use begin::start;
 
-// What a run has reached: the variables, each station's position and priority, the number of stations n, the largest reset b, and the
-// number of standing steps m.
+// What a run has reached: the variables, each station's position, priority and count of being passed over, the number of stations n, the largest
+// reset b, and the number of standing steps m.
 #[repr(C)]
 pub struct State {
     pub vars: [u32; 32],
     pub positions: [u16; 8],
     pub priorities: [i16; 8],
+    pub counts: [u16; 8],
     pub n: u8,
     pub b: u8,
     pub m: u16,

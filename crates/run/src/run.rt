@@ -64,6 +64,7 @@ impl State {
     {
         let mut positions = self.positions;
         let mut priorities = self.priorities;
+        let mut counts = self.counts;
         let n = self.n;
         let b = self.b;
         let mut m = self.m;
@@ -75,6 +76,7 @@ impl State {
                 &mut self.vars,
                 &mut positions,
                 &mut priorities,
+                &mut counts,
                 n,
                 b,
                 m,
@@ -90,6 +92,7 @@ impl State {
                         vars: self.vars,
                         positions,
                         priorities,
+                        counts,
                         n,
                         b,
                         m,
@@ -106,6 +109,7 @@ impl State {
                 vars: self.vars,
                 positions,
                 priorities,
+                counts,
                 n,
                 b,
                 m,

@@ -11,6 +11,15 @@ impl State {
     {
         let positions = self.positions;
         let priorities = self.priorities;
-        whole::parts_sound(list, &positions, &priorities, self.n, self.b, self.m)
+        let counts = self.counts;
+        whole::parts_sound(
+            list,
+            &positions,
+            &priorities,
+            &counts,
+            self.n,
+            self.b,
+            self.m,
+        )
     }
 }

@@ -26,10 +26,11 @@ impl State {
         }
         let mut positions = self.positions;
         let mut priorities = self.priorities;
+        let mut counts = self.counts;
         let n = self.n;
         let b = self.b;
         let m = self.m;
-        if !whole::parts_sound(list, &positions, &priorities, n, b, m) {
+        if !whole::parts_sound(list, &positions, &priorities, &counts, n, b, m) {
             return Outcome {
                 number: Record::STATE,
                 state: self,
@@ -40,6 +41,7 @@ impl State {
             &mut self.vars,
             &mut positions,
             &mut priorities,
+            &mut counts,
             n,
             b,
             m,
@@ -50,6 +52,7 @@ impl State {
         );
         self.positions = positions;
         self.priorities = priorities;
+        self.counts = counts;
         if number == 0 {
             self.m = m + 1;
         }

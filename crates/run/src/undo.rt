@@ -37,12 +37,14 @@ impl State {
         let mut back = nearest(list, b, log, kept, place);
         let mut positions = back.positions;
         let mut priorities = back.priorities;
+        let mut counts = back.counts;
         let number = replaying::replay(
             list,
             log,
             &mut back.vars,
             &mut positions,
             &mut priorities,
+            &mut counts,
             n,
             b,
             n as u16 + before,
@@ -56,6 +58,7 @@ impl State {
         }
         back.positions = positions;
         back.priorities = priorities;
+        back.counts = counts;
         back.m = target;
         Outcome {
             number: 0,
@@ -136,6 +139,7 @@ fn recalled(part: &[u8]) -> State
         vars: recalling::vars(part),
         positions: recalling::positions(part),
         priorities: recalling::priorities(part),
+        counts: recalling::counts(part),
         n: recalling::n(part),
         b: recalling::b(part),
         m: recalling::m(part),

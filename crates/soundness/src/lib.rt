@@ -1,21 +1,22 @@
-// What a sound state asks of the positions and the priorities, clause by clause, of any values.
+// What a sound state asks of the positions, the priorities and the counts, clause by clause, of any values.
 ghost use mathlib.Core.Path.{_≡_};
 ghost use Prim.Native.Nat.{suc, _+_, _-_};
+ghost use lib.ListN.{getD};
 ghost use lib.IntN.{pos, negℤ};
 ghost use lib.Signed.{leZ};
 ghost use Rattle.rules.specs.Words.{each, tally};
 ghost use Rattle.rules.specs.Names.{max-stations};
 ghost use Rattle.rules.specs.List.{is-at};
-ghost use Rattle.rules.specs.State.{position-in, priority-in, few-low-in, empty-in};
+ghost use Rattle.rules.specs.State.{position-in, priority-in, count-in, in-bound, few-low-in, empty-in};
 use record::Record;
 use turns::priority;
 
-// Station j's position; 0 for a station that there is no place for.
-fn position(positions: [u16; 8], j: usize) -> usize
-    ensures { λ r. ⌜ r ≡ position-in positions j ⌝ }
+// Station j's entry in a row of positions or of counts; 0 for a station that there is no place for.
+fn entry(row: [u16; 8], j: usize) -> u16
+    ensures { λ r. ⌜ r ≡ getD row j 0 ⌝ }
 {
     if j < Record::MAX_STATIONS {
-        return positions[j] as usize;
+        return row[j];
     }
     0
 }
@@ -27,7 +28,7 @@ pub fn placed(list: &[u8], later: usize, positions: [u16; 8], n: u8) -> bool
     let n = n as usize;
     let mut j: usize = 0;
     while j < n {
-        if !targets::outside(list, later, j as u8, position(positions, j)) {
+        if !targets::outside(list, later, j as u8, entry(positions, j) as usize) {
             return false;
         }
         j += 1;
@@ -35,14 +36,14 @@ pub fn placed(list: &[u8], later: usize, positions: [u16; 8], n: u8) -> bool
     true
 }
 
-// Whether each of n priorities is at most b.
-pub fn bounded(priorities: [i16; 8], n: u8, b: u8) -> bool
-    ensures { λ r. ⌜ r ≡ each (λ j. leZ (priority-in priorities j) (pos b)) n ⌝ }
+// Whether each of n priorities plus its count is at most b.
+pub fn bounded(priorities: [i16; 8], counts: [u16; 8], n: u8, b: u8) -> bool
+    ensures { λ r. ⌜ r ≡ each (λ j. in-bound b (priority-in priorities j) (count-in counts j)) n ⌝ }
 {
     let n = n as usize;
     let mut j: usize = 0;
     while j < n {
-        if !within(priorities, j, b) {
+        if !within(priority(priorities, j), entry(counts, j), b) {
             return false;
         }
         j += 1;
@@ -50,11 +51,11 @@ pub fn bounded(priorities: [i16; 8], n: u8, b: u8) -> bool
     true
 }
 
-// Whether station j's priority is at most b.
-fn within(priorities: [i16; 8], j: usize, b: u8) -> bool
-    ensures { λ r. ⌜ r ≡ leZ (priority-in priorities j) (pos b) ⌝ }
+// Whether a priority plus its count is at most b. The sum may be more than 16 bits hold.
+fn within(priority: i16, count: u16, b: u8) -> bool
+    ensures { λ r. ⌜ r ≡ in-bound b priority count ⌝ }
 {
-    priority(priorities, j) <= b as i16
+    priority as i32 + count as i32 <= b as i32
 }
 
 // Whether for each k from 1 to n at most n-k of n priorities are -k or lower.
@@ -95,13 +96,13 @@ fn low(priorities: [i16; 8], j: usize, k: u8) -> bool
     priority(priorities, j) <= 0 - (k as i16)
 }
 
-// Whether the positions and priorities from n on are 0.
-pub fn empty(positions: [u16; 8], priorities: [i16; 8], n: u8) -> bool
-    ensures { λ r. ⌜ r ≡ each (λ i. empty-in positions priorities (n + i)) (max-stations - n) ⌝ }
+// Whether the positions, priorities and counts from n on are 0.
+pub fn empty(positions: [u16; 8], priorities: [i16; 8], counts: [u16; 8], n: u8) -> bool
+    ensures { λ r. ⌜ r ≡ each (λ i. empty-in positions priorities counts (n + i)) (max-stations - n) ⌝ }
 {
     let mut j = n as usize;
     while j < Record::MAX_STATIONS {
-        if !empty_at(positions, priorities, j) {
+        if !empty_at(positions, priorities, counts, j) {
             return false;
         }
         j += 1;
@@ -110,8 +111,8 @@ pub fn empty(positions: [u16; 8], priorities: [i16; 8], n: u8) -> bool
 }
 
 // Whether place j for a station is empty.
-fn empty_at(positions: [u16; 8], priorities: [i16; 8], j: usize) -> bool
-    ensures { λ r. ⌜ r ≡ empty-in positions priorities j ⌝ }
+fn empty_at(positions: [u16; 8], priorities: [i16; 8], counts: [u16; 8], j: usize) -> bool
+    ensures { λ r. ⌜ r ≡ empty-in positions priorities counts j ⌝ }
 {
-    (position(positions, j) == 0) & (priority(priorities, j) == 0)
+    (entry(positions, j) == 0) & (priority(priorities, j) == 0) & (entry(counts, j) == 0)
 }

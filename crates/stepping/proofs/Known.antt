@@ -1,5 +1,5 @@
--- On a list and a state that are sound a step of the state's parts is the rules' STEP. Assumes nothing.
-use Prim.Native.Nat.{ℕ, _≤_}
+-- On a list and a state that are sound, with a B from 0 to 255, a step of the state's parts is the rules' STEP. Assumes nothing.
+use Prim.Native.Nat.{ℕ, _≤_, _<_}
 use mathlib.Core.Path.{_≡_, sym, ap, _∙_}
 use mathlib.Core.List.{List}
 use native.Mathlib.Omega.{arith}
@@ -35,16 +35,17 @@ only-room : (list : List ℕ) (s : State) (lent : Lent) → Known list s → ref
 unfolding judge
 only-room list s lent known = rw (known .of-list, known .of-state, full-is (s .m) (few-steps known))
 
-pub logged-known : (list : List ℕ) (s : State) (lent : Lent) (p : Pick) → Known list s → logged list s lent p ≡ step list s lent p
+pub logged-known : (list : List ℕ) (s : State) (lent : Lent) (p : Pick) → Known list s → s .b < 256
+    → logged list s lent p ≡ step list s lent p
 unfolding logged step
-logged-known list s lent p known =
+logged-known list s lent p known small =
     let left = only-room list s lent known in
     by-test (eqb (refusal (room-left s lent)) 0)
     (λ y.
     let can = before-passed list s lent .0 (left ∙ eqb-true _ 0 y) in
     rw y
     (ap (λ (a : Picked). record { number = a .number; state = a .state; lent = if eqb (a .number) 0 then with-step lent s p (a .state) else lent })
-    (took-known list s p known) ∙ sym (step-picked list s lent p can)))
+    (took-known list s p known small) ∙ sym (step-picked list s lent p can)))
     (λ y.
     let refused = eqb-false (refusal (room-left s lent)) 0 y in
     let same = ap (λ (a : Answer). a .number) (judge-before (before-pick list s lent) (pick-tests list s p) (λ z. refused (sym left ∙ z))) ∙ left in

@@ -24,7 +24,7 @@ room-left s lent =
 unfoldable pub logged : List ℕ → State → Lent → Pick → Stepped
 logged list s lent p =
     let number = refusal (room-left s lent) in
-    let t = took (narrow list) (state-of (s .vars) (s .positions) (s .priorities) (s .n) (s .b)) p in
+    let t = took (narrow list) (state-of (s .vars) (s .positions) (s .priorities) (s .counts) (s .n) (s .b)) p in
     if eqb number 0
     then record { number = t .number; state = after s t .state; lent = if eqb (t .number) 0 then with-step lent s p (after s t .state) else lent }
     else record { number = number; state = s; lent = lent }

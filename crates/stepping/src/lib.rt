@@ -11,6 +11,7 @@ pub fn logged(
     vars: &mut [u32; 32],
     positions: &mut [u16; 8],
     priorities: &mut [i16; 8],
+    counts: &mut [u16; 8],
     n: u8,
     b: u8,
     m: u16,
@@ -19,7 +20,7 @@ pub fn logged(
     station: u8,
     reset: u8,
 ) -> u8
-    ensures { λ r. ⌜ record { number = r; state = of-parts (now (vars .exit)) (now (positions .exit)) (now (priorities .exit)) n b (steps-after r m); lent = record { log = now (log .exit); kept = now (kept .exit) } } ≡ logged (now (list .entry)) (of-parts (now (vars .entry)) (now (positions .entry)) (now (priorities .entry)) n b m) (record { log = now (log .entry); kept = now (kept .entry) }) (record { station = station; reset = reset }) ⌝ }
+    ensures { λ r. ⌜ record { number = r; state = of-parts (now (vars .exit)) (now (positions .exit)) (now (priorities .exit)) (now (counts .exit)) n b (steps-after r m); lent = record { log = now (log .exit); kept = now (kept .exit) } } ≡ logged (now (list .entry)) (of-parts (now (vars .entry)) (now (positions .entry)) (now (priorities .entry)) (now (counts .entry)) n b m) (record { log = now (log .entry); kept = now (kept .entry) }) (record { station = station; reset = reset }) ⌝ }
 {
     if Record::MAX_STEPS <= m {
         return Record::FULL;
@@ -30,10 +31,20 @@ pub fn logged(
     if kept.len() < Record::KEPT_LENGTH * Record::MAX_KEPT {
         return Record::ROOM;
     }
-    let number = picking::pick(list, vars, positions, priorities, n, b, station, reset);
+    let number = picking::pick(
+        list,
+        vars,
+        positions,
+        priorities,
+        counts,
+        n,
+        b,
+        station,
+        reset,
+    );
     if number == 0 {
         logs::put(log, n, m, station, reset);
-        keeping::keep(kept, vars, positions, priorities, n, b, m + 1);
+        keeping::keep(kept, vars, positions, priorities, counts, n, b, m + 1);
     }
     number
 }

@@ -45,24 +45,27 @@ pub put-whole : (bytes : List ℕ) (len size : ℕ) → length bytes ≡ size �
 put-whole bytes len size whole = take-all size (take len bytes) (simp length-take (omega arith))
 
 -- a line put together, for which there is room
-module _ (size : ℕ) (m ready turn rest : List ℕ) (room : length m + length ready + length turn + length rest + 3 ≤ size) where
-  pub put-line : {t0 t1 t2 t3 t4 t5 t6 t7 : List ℕ}
+module _ (size : ℕ) (m ready turn priorities counts : List ℕ)
+    (room : length m + length ready + length turn + length priorities + length counts + 3 ≤ size) where
+  pub put-line : {t0 t1 t2 t3 t4 t5 t6 t7 t8 : List ℕ}
       → t0 ≡ []
       → t1 ≡ take size (t0 ++ m)
       → t2 ≡ take size (t1 ++ (32 ∷ []))
       → t3 ≡ take size (t2 ++ ready)
       → t4 ≡ take size (t3 ++ (32 ∷ []))
       → t5 ≡ take size (t4 ++ turn)
-      → t6 ≡ take size (t5 ++ rest)
-      → t7 ≡ take size (t6 ++ (10 ∷ []))
-      → t7 ≡ m ++ (32 ∷ ready) ++ (32 ∷ turn) ++ rest ++ (10 ∷ [])
-  put-line e0 e1 e2 e3 e4 e5 e6 e7 =
+      → t6 ≡ take size (t5 ++ priorities)
+      → t7 ≡ take size (t6 ++ counts)
+      → t8 ≡ take size (t7 ++ (10 ∷ []))
+      → t8 ≡ m ++ (32 ∷ ready) ++ (32 ∷ turn) ++ priorities ++ counts ++ (10 ∷ [])
+  put-line e0 e1 e2 e3 e4 e5 e6 e7 e8 =
       let s : List ℕ = 32 ∷ [] in
       let a1 = rw e0 at e1 in
       let a2 = put-after size [] m s a1 e2 in
-      let a3 = put-after size [] (m ++ s) ready a2 e3 in
-      let a4 = put-after size [] ((m ++ s) ++ ready) s a3 e4 in
-      let a5 = put-after size [] (((m ++ s) ++ ready) ++ s) turn a4 e5 in
-      let a6 = put-after size [] ((((m ++ s) ++ ready) ++ s) ++ turn) rest a5 e6 in
-      let a7 = put-after size [] (((((m ++ s) ++ ready) ++ s) ++ turn) ++ rest) (10 ∷ []) a6 e7 in
-      a7 ∙ take-all size _ (simp length-append (omega arith)) ∙ simp append-assoc
+      let a3 = rw (append-assoc m s ready) at (put-after size [] (m ++ s) ready a2 e3) in
+      let a4 = put-after size [] (m ++ (s ++ ready)) s a3 e4 in
+      let a5 = rw (append-assoc (m ++ (s ++ ready)) s turn) at (put-after size [] (m ++ (s ++ ready) ++ s) turn a4 e5) in
+      let a6 = put-after size [] (m ++ (s ++ ready) ++ (s ++ turn)) priorities a5 e6 in
+      let a7 = put-after size [] (m ++ (s ++ ready) ++ (s ++ turn) ++ priorities) counts a6 e7 in
+      let a8 = put-after size [] (m ++ (s ++ ready) ++ (s ++ turn) ++ priorities ++ counts) (10 ∷ []) a7 e8 in
+      a8 ∙ take-all size _ (simp length-append (omega arith))

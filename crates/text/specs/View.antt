@@ -6,7 +6,7 @@ use Rattle.text.specs.declared.Text.{Text}
 
 -- bytes that a text has room for
 abbrev pub max-line : ℕ
-max-line = 74
+max-line = 118
 
 -- the bytes of a text
 abbrev pub text-of : Text → List ℕ

@@ -5,10 +5,9 @@ ghost use lib.ListN.{take};
 ghost use Rattle.rules.specs.Trace.{decimal as decimalOf, signed as signedOf, end-line as endLine};
 ghost use Rattle.text.specs.View.{max-line, text-of};
 
-// Bytes of a text, at most: those of the longest line, which says of a station where it waits and names two variables and their values, with
-// every number as long as it can be. A state's line has 70: m of five digits, two masks of three, eight priorities of six, a space before each
-// but the first, and the end of the line.
-const MAX_LINE: usize = 74;
+// Bytes of a text, at most: those of the longest line, a state's, with every number as long as it can be: m of five digits, two masks of three,
+// eight priorities of six and eight counts of five, a space before each but the first, and the end of the line.
+const MAX_LINE: usize = 118;
 
 // A text: the first `len` of the bytes.
 pub struct Text {

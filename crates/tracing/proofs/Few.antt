@@ -9,14 +9,13 @@ use Rattle.rules.specs.Records.{Pick}
 use Rattle.rules.specs.State.{State}
 use Rattle.rules.specs.Lent.{Lent}
 use Rattle.rules.specs.Start.{start}
-use Rattle.rules.specs.Step.{step}
+use Rattle.rules.specs.Step.{stepped, step}
 use Rattle.rules.specs.Undo.{undo}
 use Rattle.rules.specs.Trace.{taken-pick}
 use Rattle.laws.proofs.Choice.{by-test}
 use Rattle.laws.proofs.Sound.{at-most-eight}
-use Rattle.laws.proofs.Answers.{start-can, step-can, undo-can}
+use Rattle.laws.proofs.Answers.{start-can, step-can, step-state, undo-can}
 use Rattle.fair.proofs.Begun.{start-sound}
-use Rattle.fair.proofs.Kept.{step-sound}
 use Rattle.fair.proofs.Withdrawn.{undo-sound}
 
 pub few-started : (list : List ℕ) (b : ℕ) (resets : List ℕ) (lent : Lent) → start list b resets lent .number ≡ 0
@@ -25,9 +24,10 @@ few-started list b resets lent taken =
     at-most-eight (record { of-list = start-can list b resets lent taken .of-list; of-state = start-sound list b resets lent taken .0 })
 
 few-stepped : (list : List ℕ) (s : State) (lent : Lent) (p : Pick) → step list s lent p .number ≡ 0 → step list s lent p .state .n ≤ max-stations
+unfolding stepped
 few-stepped list s lent p taken =
     let can = step-can list s lent p taken .0 in
-    at-most-eight (record { of-list = can .of-list; of-state = step-sound list s lent p (can .of-state) })
+    rw (step-state list s lent p taken) (at-most-eight (record { of-list = can .of-list; of-state = can .of-state }))
 
 few-undone : (list : List ℕ) (s : State) (lent : Lent) → undo list s lent .number ≡ 0 → undo list s lent .state .n ≤ max-stations
 few-undone list s lent taken =

@@ -13,10 +13,11 @@ pub fn right(list: &[u8], part: &[u8], b: u8, place: u16) -> bool
     }
     let positions = recalling::positions(part);
     let priorities = recalling::priorities(part);
+    let counts = recalling::counts(part);
     let n = recalling::n(part);
     let own = recalling::b(part);
     let m = recalling::m(part);
-    if !whole::parts_sound(list, &positions, &priorities, n, own, m) {
+    if !whole::parts_sound(list, &positions, &priorities, &counts, n, own, m) {
         return false;
     }
     (m as usize == Record::KEPT_EVERY as usize * place as usize) & (own == b)

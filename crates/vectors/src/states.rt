@@ -1,4 +1,5 @@
-// A state as 164 bytes, low bytes first: 32 variables of 4, 8 positions of 2, 8 priorities of 2 in two's complement, n, b, and m of 2.
+// A state as 180 bytes, low bytes first: 32 variables of 4, 8 positions of 2, 8 priorities of 2 in two's complement, 8 counts of 2, n, b, and m
+// of 2.
 use crate::fields::byte;
 use crate::fields::half;
 use crate::fields::word;
@@ -8,14 +9,17 @@ use crate::hash::after_half;
 use crate::hash::after_word;
 use run::State;
 
-// The numbers before n are counted from the first variable on: the first position is number 32, the first priority 40, and there are 48.
+// The numbers before n are counted from the first variable on: the first position is number 32, the first priority 40, the first count 48, and
+// there are 56.
 const POSITIONS: usize = 32;
 
 const PRIORITIES: usize = 40;
 
-const NUMBERS: usize = 48;
+const COUNTS: usize = 48;
 
-// Reads a field that is a state; its length, which is always 164, is read over.
+const NUMBERS: usize = 56;
+
+// Reads a field that is a state; its length, which is always 180, is read over.
 pub(crate) fn state(file: i32) -> State {
     half(file);
     let mut state = State::zeros();
@@ -47,8 +51,10 @@ fn with_number(file: i32, mut state: State, i: usize) -> State {
         state.vars[i] = word(file);
     } else if i < PRIORITIES {
         state.positions[i - POSITIONS] = half(file);
-    } else if i < NUMBERS {
+    } else if i < COUNTS {
         state.priorities[i - PRIORITIES] = signed(half(file));
+    } else if i < NUMBERS {
+        state.counts[i - COUNTS] = half(file);
     }
     state
 }
@@ -59,8 +65,10 @@ fn after_number(h: u32, state: State, i: usize) -> u32 {
         after_word(h, state.vars[i])
     } else if i < PRIORITIES {
         after_half(h, state.positions[i - POSITIONS])
-    } else if i < NUMBERS {
+    } else if i < COUNTS {
         after_half(h, unsigned(state.priorities[i - PRIORITIES]))
+    } else if i < NUMBERS {
+        after_half(h, state.counts[i - COUNTS])
     } else {
         h
     }

@@ -1,5 +1,5 @@
-// Whether the parts of a state, taken together, are sound against a list, of any values. `soundness` has the clauses on positions and
-// priorities.
+// Whether the parts of a state, taken together, are sound against a list, of any values. `soundness` has the clauses on positions,
+// priorities and counts.
 ghost use mathlib.Core.Path.{_≡_};
 ghost use mathlib.Core.List.{[]};
 ghost use Rattle.rules.specs.State.{sound-state};
@@ -11,11 +11,12 @@ pub fn parts_sound(
     list: &[u8],
     positions: &[u16; 8],
     priorities: &[i16; 8],
+    counts: &[u16; 8],
     n: u8,
     b: u8,
     m: u16,
 ) -> bool
-    ensures { λ r. ⌜ r ≡ sound-state (now (list .entry)) (of-parts [] (now (positions .entry)) (now (priorities .entry)) n b m) ⌝ }
+    ensures { λ r. ⌜ r ≡ sound-state (now (list .entry)) (of-parts [] (now (positions .entry)) (now (priorities .entry)) (now (counts .entry)) n b m) ⌝ }
 {
     let count = list::stations(list);
     if n as usize != count {
@@ -27,7 +28,7 @@ pub fn parts_sound(
     if !soundness::placed(list, list::later(list, count), *positions, n) {
         return false;
     }
-    soundness::bounded(*priorities, n, b)
+    soundness::bounded(*priorities, *counts, n, b)
         & soundness::few_low(*priorities, n)
-        & soundness::empty(*positions, *priorities, n)
+        & soundness::empty(*positions, *priorities, *counts, n)
 }

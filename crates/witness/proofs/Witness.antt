@@ -18,7 +18,7 @@ use Rattle.rules.specs.Values.{set-value, holds}
 use Rattle.rules.specs.Start.{initial-run, started, start-records, start}
 use Rattle.rules.specs.Ready.{readiness-at, readiness, ended, waiting, ready, lowest}
 use Rattle.rules.specs.Move.{body-run, step-vars, step-position}
-use Rattle.rules.specs.Step.{charge, stepped, picked, step}
+use Rattle.rules.specs.Step.{charge, counts-after, stepped, picked, step}
 use Rattle.rules.specs.Run.{steps-from, run}
 use Rattle.rules.specs.Kept.{encoded, kept-state, kept-zeros, kept-right, keep}
 use Rattle.rules.specs.Undo.{replay, starts-right, restarted, replayed-near, undo}
@@ -40,7 +40,7 @@ pair-bytes i =
     (λ y. let e : getD pair i 0 ≡ 0 = List·getD-eq-default pair 0 {n = i} (ltb-false i 64 y) in omega (arith, e))
 
 pub met : Met
-unfolding each first tally mask values changed written judge record-from list-record-at rules-of fields-right stride wrong-at walked well-shaped too-deep-at check wrong-length field-place station-count depth-place parts-of stations-of leading-sets initial-part size laid inits bodies list-of bytes-of stations initials-after is-at init-right initial-right outside-targets inside-target inside-targets later-right sound-list few-low empty-at sound-state set-value holds initial-run started start-records start readiness-at readiness ended waiting ready lowest body-run step-vars step-position charge stepped picked keep step steps-from run replay starts-right restarted replayed-near undo stepped-on single-steps called calls-from passed-over
+unfolding each first tally mask values changed written judge record-from list-record-at rules-of fields-right stride wrong-at walked well-shaped too-deep-at check wrong-length field-place station-count depth-place parts-of stations-of leading-sets initial-part size laid inits bodies list-of bytes-of stations initials-after is-at init-right initial-right outside-targets inside-target inside-targets later-right sound-list few-low empty-at sound-state set-value holds initial-run started start-records start readiness-at readiness ended waiting ready lowest body-run step-vars step-position charge counts-after stepped picked keep step steps-from run replay starts-right restarted replayed-near undo stepped-on single-steps called calls-from passed-over
 met =
     record {
       bytes = pair-bytes;
@@ -51,8 +51,9 @@ met =
       stands = refl;
       unpicked = (λ e. omega (arith, e), (λ e. omega (arith, e), tt));
       as-often = refl;
+      as-counted = refl;
     }
 
 pub deep : Deep
-unfolding each first tally mask values changed written judge record-from list-record-at rules-of fields-right stride wrong-at walked well-shaped too-deep-at check wrong-length field-place station-count depth-place parts-of stations-of leading-sets initial-part size laid inits bodies list-of bytes-of stations initials-after is-at init-right initial-right outside-targets inside-target inside-targets later-right sound-list few-low empty-at sound-state set-value holds initial-run started start-records start readiness-at readiness ended waiting ready lowest body-run step-vars step-position charge stepped picked keep step steps-from run replay starts-right restarted replayed-near undo stepped-on single-steps called calls-from passed-over joined encoded kept-state kept-zeros kept-right
+unfolding each first tally mask values changed written judge record-from list-record-at rules-of fields-right stride wrong-at walked well-shaped too-deep-at check wrong-length field-place station-count depth-place parts-of stations-of leading-sets initial-part size laid inits bodies list-of bytes-of stations initials-after is-at init-right initial-right outside-targets inside-target inside-targets later-right sound-list few-low empty-at sound-state set-value holds initial-run started start-records start readiness-at readiness ended waiting ready lowest body-run step-vars step-position charge counts-after stepped picked keep step steps-from run replay starts-right restarted replayed-near undo stepped-on single-steps called calls-from passed-over joined encoded kept-state kept-zeros kept-right
 deep = record { accepted = accepted-is counter .0 refl; stands = refl; high = refl; undone = refl; counted = refl; used = refl }

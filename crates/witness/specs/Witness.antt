@@ -9,7 +9,7 @@ use lib.ListN.{getD, replicate}
 use Rattle.rules.specs.Names.{STATE, TURN, STATION, SKIP, SET, WHILE, OD, max-kept, kept-length}
 use Rattle.rules.specs.Records.{Pick}
 use Rattle.rules.specs.List.{stations}
-use Rattle.rules.specs.State.{State, zeros}
+use Rattle.rules.specs.State.{State, count, zeros}
 use Rattle.rules.specs.Lent.{Lent}
 use Rattle.rules.specs.Start.{started}
 use Rattle.rules.specs.Step.{stepped}
@@ -66,6 +66,8 @@ pub record Met : Type 0 where
   pub unpicked : Unpicked 1 steps 2
   -- in which station 1 was passed over B+n-1 times
   pub as-often : passed-over (built pair) 1 steps 2 + 1 ≡ start-b steps + stations (built pair)
+  -- which its count says
+  pub as-counted : count s₂ 1 + 1 ≡ start-b steps + stations (built pair)
 
 -- one station that counts: STATION; WHILE v0 = v0; SET v0 := v0+1; OD
 abbrev pub counter : List ℕ

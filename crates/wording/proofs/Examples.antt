@@ -35,6 +35,6 @@ refused = refl
 longest : Seen
 longest = record { variable = 255; value = 4294967295 }
 
-fills-a-text : length (why-line 255 (said (because-waiting-two 65535 longest longest))) ≡ 74
+longest-line : length (why-line 255 (said (because-waiting-two 65535 longest longest))) ≡ 74
 unfolding longest ascii shown waits-for-one waits-for-two said-of why-line decimal-digits
-fills-a-text = refl
+longest-line = refl

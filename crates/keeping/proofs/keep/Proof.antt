@@ -61,7 +61,7 @@ returns-2 c =
     let put = c .before .before .put-state in
     let at = kept-offset (a .m / kept-every) in
     let there = both (le-leb 1 (a .m) (omega (arith, some .before .if1 .left))) (le-leb (at + kept-length) (length (a .kept .now)) (roomy .if3 .taken)) in
-    let state = of-parts (a .vars .now) (a .positions .now) (a .priorities .now) (a .n) (a .b) (a .m) in
+    let state = of-parts (a .vars .now) (a .positions .now) (a .priorities .now) (a .counts .now) (a .n) (a .b) (a .m) in
     let long = put .kept .0 ∙ c .before .before .before .put-state-arg .given .2 in
     rw there (place-kept (a .kept .now) (put .last .0) state _ (not-false _ (some .if2 .left)) long (put .ensures))
 

@@ -6,12 +6,6 @@ use Rattle.keeping.proofs.Put.{rest-put}
 use Rattle.keeping.proofs.put_rest.Statement.{statement}
 use Rattle.keeping.proofs.put_rest.Tie as tie
 
-sub-put-zeros : tie.Need-sub-put-zeros
-sub-put-zeros c = search needs
-
-put-zeros-requires : tie.Need-put-zeros-requires
-put-zeros-requires c κs = search needs
-
 slice-write-place : tie.Need-slice-write-place
 slice-write-place c = search needs
 
@@ -27,11 +21,11 @@ add-put-two c = search needs
 put-two-requires : tie.Need-put-two-requires
 put-two-requires c κs = simp length-set (omega arith)
 
-sub-put-zeros-2 : tie.Need-sub-put-zeros-2
-sub-put-zeros-2 c = search needs
+sub-put-zeros : tie.Need-sub-put-zeros
+sub-put-zeros c = search needs
 
-put-zeros-requires-2 : tie.Need-put-zeros-requires-2
-put-zeros-requires-2 c κs = omega (arith, simp length-set at (c .before .before .before .put-two .kept .0))
+put-zeros-requires : tie.Need-put-zeros-requires
+put-zeros-requires c κs = omega (arith, simp length-set at (c .before .before .before .put-two .kept .0))
 
 same-length : tie.Need-same-length
 same-length c = omega (arith, simp length-set at (c .before .before .before .before .before .before .put-two .kept .0))
@@ -39,21 +33,18 @@ same-length c = omega (arith, simp length-set at (c .before .before .before .bef
 returns : tie.Need-returns
 returns c =
     let two = c .before .before .before .before .before .before in
-    let zeros = two .before .before .before .before in
-    rest-put _ _ _ _ _ _ _ (zeros .before .before .before .pre) (zeros .put-zeros .ensures) (two .put-two .ensures) (c .before .before .put-zeros2 .ensures)
+    rest-put _ _ _ _ _ _ (two .before .before .before .pre) (two .put-two .ensures) (c .before .before .put-zeros .ensures)
 
 pub put-rest-spec : {M : Type 1} → statement M
 put-rest-spec =
     tie.close
     (tie.spec
-    sub-put-zeros
-    put-zeros-requires
     slice-write-place
     add-place
     slice-write-place-2
     add-put-two
     put-two-requires
-    sub-put-zeros-2
-    put-zeros-requires-2
+    sub-put-zeros
+    put-zeros-requires
     same-length
     returns)

@@ -2,7 +2,7 @@
 use Rattle.text.proofs.Texts.{put-line}
 use Rattle.text.proofs.Digits.{length-decimal}
 use Rattle.text.specs.View.{max-line}
-use Rattle.rules.specs.Trace.{decimal, priorities-text}
+use Rattle.rules.specs.Trace.{decimal, priorities-text, counts-text}
 use Rattle.run.specs.View.{as-state}
 use native.Mathlib.Omega.{arith}
 use Prim.Native.Nat.{_<_}
@@ -34,6 +34,9 @@ decimal-requires-3 c κs = search needs
 with-priorities-requires : tie.Need-with-priorities-requires
 with-priorities-requires c κs = search needs
 
+with-counts-requires : tie.Need-with-counts-requires
+with-counts-requires c κs = search needs
+
 put-requires-3 : tie.Need-put-requires-3
 put-requires-3 c κs = search needs
 
@@ -43,22 +46,26 @@ steps c = omega arith
 
 returns : tie.Need-returns
 returns c =
-    let masks = c .before .before .before .before in
+    let counted = c .before in
+    let charged = counted .before in
+    let masks = charged .before .before .before in
     let start = masks .before .before .before .before .before in
     let a = start .args in
     let few = steps start in
     let m = length-decimal 4 (a .state .m) (omega (arith, few)) in
     let ready = length-decimal 2 (a .ready) (omega (arith, start .fits .ready .fits)) in
     let turn = length-decimal 2 (a .in-turn) (omega (arith, start .fits .in-turn .fits)) in
-    let rest = c .before .with-priorities .ensures .1 in
-    put-line max-line (decimal (a .state .m)) (decimal (a .ready)) (decimal (a .in-turn)) (priorities-text (as-state (a .state)) 0 (a .state .n)) (omega (arith, m, ready, turn, rest, start .pre))
+    put-line max-line (decimal (a .state .m)) (decimal (a .ready)) (decimal (a .in-turn)) (priorities-text (as-state (a .state)) (a .state .n))
+    (counts-text (as-state (a .state)) (a .state .n))
+    (omega (arith, m, ready, turn, charged .with-priorities .ensures .1, counted .with-counts .ensures .1, start .pre))
     (masks .before .before .before .before .empty .ensures)
     (masks .before .before .decimal .ensures)
     (masks .before .put .ensures)
     (masks .decimal2 .ensures)
-    (c .before .before .before .put2 .ensures)
-    (c .before .before .decimal3 .ensures)
-    (c .before .with-priorities .ensures .0)
+    (charged .before .before .put2 .ensures)
+    (charged .before .decimal3 .ensures)
+    (charged .with-priorities .ensures .0)
+    (counted .with-counts .ensures .0)
     (c .put3 .ensures)
 
 pub spelled-spec : {M : Type 1} → statement M
@@ -73,5 +80,6 @@ spelled-spec =
     put-requires-2
     decimal-requires-3
     with-priorities-requires
+    with-counts-requires
     put-requires-3
     returns)

@@ -3,9 +3,9 @@
 use Rattle.text.specs.View.{max-line, text-of}
 use Rattle.text.proofs.Texts.{put-whole}
 use Rattle.text.proofs.Signed.{within}
-use Rattle.line.proofs.Priorities.{put-priority, length-next}
+use Rattle.line.proofs.Entries.{put-entry, length-next, length-signed}
 use Rattle.rules.specs.State.{priority}
-use Rattle.rules.specs.Trace.{priorities-text}
+use Rattle.rules.specs.Trace.{signed, entries-text, priorities-text}
 use Rattle.run.specs.View.{as-state}
 use mathlib.Core.List.{_++_, append-nil}
 use mathlib.Core.Path.{_≡_, sym, ap, _∙_}
@@ -22,8 +22,8 @@ use Rattle.line.proofs.with_priorities.Tie as tie
 abbrev Inv-loop : tie.InvT-loop
 Inv-loop state n text₀ j₀ text j =
     (j ≤ n)
-    × ((text-of text ≡ take max-line (text-of text₀ ++ priorities-text (as-state state) 0 j))
-    × (length (priorities-text (as-state state) 0 j) ≤ 7 * j))
+    × ((text-of text ≡ take max-line (text-of text₀ ++ priorities-text (as-state state) j))
+    × (length (priorities-text (as-state state) j) ≤ 7 * j))
 
 abbrev μ-loop : tie.MeasureT-loop
 μ-loop state n text₀ j₀ text j = n - j
@@ -32,7 +32,7 @@ cast-n : tie.Need-cast-n Inv-loop μ-loop
 cast-n c = search needs
 
 loop-holds : tie.Need-loop-holds Inv-loop μ-loop
-unfolding priorities-text
+unfolding entries-text
 loop-holds c =
     let t = c .args .first in
     (search needs, (sym (ap (take max-line) (append-nil (text-of t)) ∙ put-whole (t .bytes) (t .len) max-line (search needs)), omega arith))
@@ -63,8 +63,9 @@ loop-again c =
     let fits : SFits w16 (priority s j) = record { sfits = c .before .before .p .given } in (
       omega arith,
       (
-        put-priority max-line s j (text-of (turn .before .args .first)) (turn .loop .inv .1 .0) (c .before .put .ensures) (rw (toZ-ofZ w16 _ fits) at (c .signed .ensures)),
-        length-next s j (within _ fits) (turn .loop .inv .1 .1),
+        put-entry (λ k. signed (priority s k)) max-line j (text-of (turn .before .args .first)) (turn .loop .inv .1 .0) (c .before .put .ensures)
+            (rw (toZ-ofZ w16 _ fits) at (c .signed .ensures)),
+        length-next (λ k. signed (priority s k)) 7 j (omega (arith, length-signed (priority s j) (within _ fits))) (turn .loop .inv .1 .1),
       ),
     )
 

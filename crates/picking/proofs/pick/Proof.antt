@@ -19,10 +19,10 @@ use Rattle.rules.specs.State.{position-in, priority-in}
 use Rattle.rules.specs.Move.{step-vars, step-position}
 use Rattle.rules.specs.Step.{pick-tests}
 use Rattle.laws.specs.Narrow.{narrow}
-use Rattle.charging.specs.Charge.{held-charge}
+use Rattle.charging.specs.Charge.{held-charge, held-count}
 use Rattle.stations.specs.Places.{ready-from}
 use Rattle.picking.specs.Took.{state-of, took}
-use Rattle.picking.proofs.Judged.{told-here, judged, charged}
+use Rattle.picking.proofs.Judged.{told-here, judged, charged, counted}
 use Rattle.picking.proofs.pick.Statement.{statement}
 use Rattle.picking.proofs.pick.Tie as tie
 
@@ -65,7 +65,7 @@ pick-refusal-requires c κs = search needs
 -- the number is the refusal of the pick
 number : (c : tie.After-pick-refusal) → let a = c .before .before .before .before .before .before .before .before .before .before .before .args in
     c .pick-refusal .result
-    ≡ refusal (pick-tests (narrow (a .list .now)) (state-of (a .vars .now) (a .positions .now) (a .priorities .now) (a .n) (a .b)) (record { station = a .station; reset = a .reset }))
+    ≡ refusal (pick-tests (narrow (a .list .now)) (state-of (a .vars .now) (a .positions .now) (a .priorities .now) (a .counts .now) (a .n) (a .b)) (record { station = a .station; reset = a .reset }))
 number c =
     let read = c .before .before .before .before .before .before .before in
     let station = read .before in
@@ -73,8 +73,8 @@ number c =
     let own = toZ-ofZ w16 (priority-in (a .priorities .now) (a .station)) (record { sfits = read .own .given }) in
     let ready = c .before .before .judge .ensures .0 in
     c .pick-refusal .ensures
-    ∙ judged (a .list .now) (a .vars .now) (a .positions .now) (a .priorities .now) (a .n) (a .b) (record { station = a .station; reset = a .reset }) ready
-    (told-here (a .list .now) (a .vars .now) (a .positions .now) (a .priorities .now) (a .n) (a .b) (record { station = a .station; reset = a .reset }) ready (here station)
+    ∙ judged (a .list .now) (a .vars .now) (a .positions .now) (a .priorities .now) (a .counts .now) (a .n) (a .b) (record { station = a .station; reset = a .reset }) ready
+    (told-here (a .list .now) (a .vars .now) (a .positions .now) (a .priorities .now) (a .counts .now) (a .n) (a .b) (record { station = a .station; reset = a .reset }) ready (here station)
     (⊎-elim (λ w. inl (w .0 .taken, w .1)) (λ w. inr (w .0 .left, w .4 ∙ w .3 .ensures)) (c .before .if3 .came)))
     (rw own at (c .before .before .judge .ensures .1))
 
@@ -101,14 +101,15 @@ element-write-positions : tie.Need-element-write-positions
 element-write-positions c = search needs
 
 -- past all tests, where the charge is by the readiness before the step and the move is of the parts given, that is the pick
-done : {all : List Bool} {charges : List ℤ} {next : ℕ} {later : List ℕ} (t : tie.Else4) →
+done : {all : List Bool} {charges : List ℤ} {counts : List ℕ} {next : ℕ} {later : List ℕ} (t : tie.Else4) →
     let a = t .before .before .before .before .before .before .before .before .before .before .before .before .args in
     let e = list-record-at (narrow (a .list .now)) (position-in (a .positions .now) (a .station)) in
     all ≡ changed (λ j was. ready-from (a .list .now) (a .vars .now) (position-in (a .positions .now) j)) (min (a .n) max-stations) (replicate max-stations false) →
-    charges ≡ changed (λ j. held-charge (eqb j (a .station)) (getD all j false) (a .reset)) max-stations (a .priorities .now) →
+    (charges ≡ changed (λ j. held-charge (eqb j (a .station)) (getD all j false) (a .reset)) max-stations (a .priorities .now))
+    × (counts ≡ changed (λ j. held-count (eqb j (a .station)) (getD all j false)) max-stations (a .counts .now)) →
     (next ≡ step-position (a .vars .now) e) × (later ≡ step-vars (narrow (a .list .now)) (a .vars .now) e) →
-    record { number = 0; vars = later; positions = set (a .positions .now) (a .station) next; priorities = charges }
-    ≡ took (narrow (a .list .now)) (state-of (a .vars .now) (a .positions .now) (a .priorities .now) (a .n) (a .b)) (record { station = a .station; reset = a .reset })
+    record { number = 0; vars = later; positions = set (a .positions .now) (a .station) next; priorities = charges; counts = counts }
+    ≡ took (narrow (a .list .now)) (state-of (a .vars .now) (a .positions .now) (a .priorities .now) (a .counts .now) (a .n) (a .b)) (record { station = a .station; reset = a .reset })
 unfolding took
 done t judged charge step =
     let station = t .before .before .before .before .before .before .before .before .before in
@@ -116,8 +117,11 @@ done t judged charge step =
     rw (
       ← number (t .before),
       eq-eqb _ _ (t .if4 .left),
-      charge,
-      charged (a .list .now) (a .vars .now) (a .positions .now) (a .priorities .now) (a .n) (a .b) (record { station = a .station; reset = a .reset })
+      charge .0,
+      charge .1,
+      charged (a .list .now) (a .vars .now) (a .positions .now) (a .priorities .now) (a .counts .now) (a .n) (a .b) (record { station = a .station; reset = a .reset })
+          judged (here station),
+      counted (a .list .now) (a .vars .now) (a .positions .now) (a .priorities .now) (a .counts .now) (a .n) (a .b) (record { station = a .station; reset = a .reset })
           judged (here station),
       step .0,
       step .1,

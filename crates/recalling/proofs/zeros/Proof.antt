@@ -16,34 +16,10 @@ sub-zero-from c = search needs
 zero-from-requires : tie.Need-zero-from-requires
 zero-from-requires c κs = search needs
 
-sub-zero-from-2 : tie.Need-sub-zero-from-2
-sub-zero-from-2 c = search needs
-
-zero-from-requires-2 : tie.Need-zero-from-requires-2
-zero-from-requires-2 c κs = search needs
-
 returns-2 : tie.Need-returns-2
 unfolding kept-zeros
 returns-2 c =
-    let first = c .before .before in
-    let whole = le-leb kept-length (length (first .before .before .before .args .part .now)) (first .before .if1 .left) in
-    rw (whole, ← first .zero-from .ensures, c .before .if2 .taken) (c .zero-from2 .ensures)
-
-returns-3 : tie.Need-returns-3
-unfolding kept-zeros
-returns-3 c =
-    let first = c .before in
-    let whole = le-leb kept-length (length (first .before .before .before .args .part .now)) (first .before .if1 .left) in
-    rw (whole, ← first .zero-from .ensures, c .if2 .left)
+    rw (le-leb kept-length (length (c .before .before .before .args .part .now)) (c .before .if1 .left)) (c .zero-from .ensures)
 
 pub zeros-spec : {M : Type 1} → statement M
-zeros-spec =
-    tie.close
-    (tie.spec
-    returns
-    sub-zero-from
-    zero-from-requires
-    sub-zero-from-2
-    zero-from-requires-2
-    returns-2
-    returns-3)
+zeros-spec = tie.close (tie.spec returns sub-zero-from zero-from-requires returns-2)

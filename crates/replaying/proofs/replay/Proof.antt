@@ -12,13 +12,13 @@ use Rattle.replaying.proofs.replay.Statement.{statement}
 use Rattle.replaying.proofs.replay.Tie as tie
 
 abbrev Inv-loop : tie.InvT-loop
-Inv-loop list log vars₀ positions₀ priorities₀ n b first count i₀ left₀ vars positions priorities i left =
+Inv-loop list log vars₀ positions₀ priorities₀ counts₀ n b first count i₀ left₀ vars positions priorities counts i left =
     (i + left ≡ first + count)
-    × (took-from list log n b first count (record { number = 0; vars = vars₀; positions = positions₀; priorities = priorities₀ })
-    ≡ took-from list log n b i left (record { number = 0; vars = vars; positions = positions; priorities = priorities }))
+    × (took-from list log n b first count (record { number = 0; vars = vars₀; positions = positions₀; priorities = priorities₀; counts = counts₀ })
+    ≡ took-from list log n b i left (record { number = 0; vars = vars; positions = positions; priorities = priorities; counts = counts }))
 
 abbrev μ-loop : tie.MeasureT-loop
-μ-loop list log vars₀ positions₀ priorities₀ n b first count i₀ left₀ vars positions priorities i left = left
+μ-loop list log vars₀ positions₀ priorities₀ counts₀ n b first count i₀ left₀ vars positions priorities counts i left = left
 
 loop-holds : tie.Need-loop-holds Inv-loop μ-loop
 loop-holds c = (refl, refl)
@@ -42,13 +42,13 @@ pick-requires c κs = search needs
 abbrev given : (c : tie.In-loop Inv-loop μ-loop) → Took
 given c =
     let at = c .before .loop in
-    record { number = 0; vars = at .vars; positions = at .positions; priorities = at .priorities }
+    record { number = 0; vars = at .vars; positions = at .positions; priorities = at .priorities; counts = at .counts }
 
 returns : tie.Need-returns Inv-loop μ-loop
 returns c =
     let done = c .before in
     let read = done .before in
-    let turn = read .before .before .before .before .before in
+    let turn = read .before .before .before .before .before .before in
     let a = turn .before .before .before .before .args in
     let at = turn .before .loop in
     let is = rw (read .before .byte .ensures, read .byte2 .ensures) at (done .pick .ensures) in
@@ -67,7 +67,7 @@ loop-again : tie.Need-loop-again Inv-loop μ-loop
 loop-again c =
     let done = c .before in
     let read = done .before in
-    let turn = read .before .before .before .before .before in
+    let turn = read .before .before .before .before .before .before in
     let a = turn .before .before .before .before .args in
     let at = turn .before .loop in
     let is = rw (read .before .byte .ensures, read .byte2 .ensures, c .if1 .left) at (done .pick .ensures) in (

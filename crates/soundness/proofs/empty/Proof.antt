@@ -15,10 +15,10 @@ use Rattle.soundness.proofs.empty.Statement.{statement}
 use Rattle.soundness.proofs.empty.Tie as tie
 
 abbrev Inv-loop : tie.InvT-loop
-Inv-loop positions priorities n j₀ j = (n ≤ j) × ((k : ℕ) → k < j → n ≤ k → empty-in positions priorities k ≡ true)
+Inv-loop positions priorities counts n j₀ j = (n ≤ j) × ((k : ℕ) → k < j → n ≤ k → empty-in positions priorities counts k ≡ true)
 
 abbrev μ-loop : tie.MeasureT-loop
-μ-loop positions priorities n j₀ j = max-stations - j
+μ-loop positions priorities counts n j₀ j = max-stations - j
 
 loop-holds : tie.Need-loop-holds Inv-loop μ-loop
 loop-holds c = (search needs, λ k l above. absurd (omega arith))
@@ -30,7 +30,7 @@ returns : tie.Need-returns Inv-loop μ-loop
 returns c =
     let turn = c .before .before in
     let a = turn .before .before .args in
-    sym (each-from-not (empty-in (a .positions) (a .priorities)) (a .n) max-stations _ (turn .before .loop .inv .0) (turn .loop-test .taken)
+    sym (each-from-not (empty-in (a .positions) (a .priorities) (a .counts)) (a .n) max-stations _ (turn .before .loop .inv .0) (turn .loop-test .taken)
     (sym (c .before .empty-at .ensures) ∙ not-true _ (c .if1 .taken)))
 
 add-j : tie.Need-add-j Inv-loop μ-loop
@@ -48,7 +48,7 @@ loop-again c = (
 returns-2 : tie.Need-returns-2 Inv-loop μ-loop
 returns-2 c =
     let a = c .before .before .args in
-    sym (each-between (empty-in (a .positions) (a .priorities)) (a .n) max-stations (λ k l. c .before .loop .inv .1 k (omega arith)))
+    sym (each-between (empty-in (a .positions) (a .priorities) (a .counts)) (a .n) max-stations (λ k l. c .before .loop .inv .1 k (omega arith)))
 
 pub empty-spec : {M : Type 1} → statement M
 empty-spec =

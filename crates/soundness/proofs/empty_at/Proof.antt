@@ -5,15 +5,24 @@ use Rattle.soundness.proofs.Signed.{is-zero}
 use Rattle.soundness.proofs.empty_at.Statement.{statement}
 use Rattle.soundness.proofs.empty_at.Tie as tie
 
-position-requires : tie.Need-position-requires
-position-requires c κs = search needs
+entry-requires : tie.Need-entry-requires
+entry-requires c κs = search needs
 
 priority-requires : tie.Need-priority-requires
 priority-requires c κs = search needs
 
+entry-requires-2 : tie.Need-entry-requires-2
+entry-requires-2 c κs = search needs
+
 returns : tie.Need-returns
 returns c =
-    rw (is-zero _ _ (record { sfits = c .priority .ok }), c .priority .ensures, c .before .position .ensures)
+    let judged = c .before in
+    rw (
+      is-zero _ _ (record { sfits = judged .priority .ok }),
+      judged .priority .ensures,
+      judged .before .entry .ensures,
+      c .entry2 .ensures,
+    )
 
 pub empty-at-spec : {M : Type 1} → statement M
-empty-at-spec = tie.close (tie.spec position-requires priority-requires returns)
+empty-at-spec = tie.close (tie.spec entry-requires priority-requires entry-requires-2 returns)

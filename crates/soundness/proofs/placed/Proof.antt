@@ -27,8 +27,11 @@ loop-holds c = (search needs, below-none _)
 cast-outside : tie.Need-cast-outside Inv-loop μ-loop
 cast-outside c = search needs
 
-position-requires : tie.Need-position-requires Inv-loop μ-loop
-position-requires c κs = search needs
+entry-requires : tie.Need-entry-requires Inv-loop μ-loop
+entry-requires c κs = search needs
+
+cast-outside-2 : tie.Need-cast-outside-2 Inv-loop μ-loop
+cast-outside-2 c = search needs
 
 outside-requires : tie.Need-outside-requires Inv-loop μ-loop
 outside-requires c κs = search needs
@@ -37,7 +40,7 @@ returns : tie.Need-returns Inv-loop μ-loop
 returns c =
     let turn = c .before .before .before in
     let a = turn .before .before .before .args in
-    let fails = sym (rw (c .before .before .position .ensures) at (c .before .outside .ensures)) ∙ not-true _ (c .if1 .taken) in
+    let fails = sym (rw (c .before .before .entry .ensures) at (c .before .outside .ensures)) ∙ not-true _ (c .if1 .taken) in
     sym (each-not _ (a .n) (turn .before .loop .j) (search needs) fails)
 
 add-j : tie.Need-add-j Inv-loop μ-loop
@@ -48,7 +51,7 @@ loop-less c = search needs
 
 loop-again : tie.Need-loop-again Inv-loop μ-loop
 loop-again c =
-    let passes = sym (rw (c .before .before .position .ensures) at (c .before .outside .ensures)) ∙ not-false _ (c .if1 .left) in
+    let passes = sym (rw (c .before .before .entry .ensures) at (c .before .outside .ensures)) ∙ not-false _ (c .if1 .left) in
     (search needs, below-more _ _ (c .before .before .before .before .loop .inv .1) passes)
 
 returns-2 : tie.Need-returns-2 Inv-loop μ-loop
@@ -64,7 +67,8 @@ placed-spec =
     μ-loop
     loop-holds
     cast-outside
-    position-requires
+    entry-requires
+    cast-outside-2
     outside-requires
     returns
     add-j

@@ -7,13 +7,15 @@ use native.Mathlib.Omega.{arith}
 use lib.Dec.{leb}
 use lib.ListN.{length}
 use borrow.Author.Needs.{needs}
-use borrow.Author.Tests.{eq-eqb, ne-eqb, le-leb, lt-leb, lt-ltb, le-ltb, leb-true, leb-false, not-true, not-false}
-use Rattle.rules.specs.Words.{judge}
+use borrow.Author.Tests.{le-leb, lt-leb, lt-ltb, le-ltb, leb-true, leb-false, not-true, not-false}
+use Rattle.rules.specs.Words.{judge, refusal}
 use Rattle.rules.specs.Names.{max-steps, max-kept, kept-every, kept-length}
 use Rattle.rules.specs.Kept.{kept-offset, kept-short}
+use Rattle.laws.specs.Parts.{of-parts}
 use Rattle.laws.proofs.Choice.{both}
 use Rattle.keeping.specs.Place.{has-place}
-use Rattle.stepping.specs.Logged.{logged}
+use Rattle.stepping.specs.Logged.{room-left, logged}
+use Rattle.stepping.proofs.Past.{past-taken, past-refused}
 use Rattle.stepping.proofs.logged.Statement.{statement}
 use Rattle.stepping.proofs.logged.Tie as tie
 
@@ -36,6 +38,13 @@ placed c =
     let a = tested .before .before .before .before .args in
     both (le-leb 1 (a .m + 1) (omega arith))
     (le-leb (kept-offset ((a .m + 1) / kept-every) + kept-length) (length (a .kept .now)) (omega (arith, tested .if1 .left, c .if3 .left)))
+
+-- and none of the tests of room refuses it
+room-there : (c : tie.Else3) → let a = c .before .before .before .before .before .before .before .before .args in
+    refusal (room-left (of-parts (a .vars .now) (a .positions .now) (a .priorities .now) (a .counts .now) (a .n) (a .b) (a .m)) (record { log = a .log .now; kept = a .kept .now }))
+    ≡ 0
+unfolding judge
+room-there c = rw (not-full (c .before .before .before .before), le-ltb _ _ (roomy (c .before)), kept-roomy c)
 
 returns : tie.Need-returns
 unfolding logged judge
@@ -93,40 +102,24 @@ same-length-4 : tie.Need-same-length-4
 same-length-4 c = search needs
 
 returns-4 : tie.Need-returns-4
-unfolding logged judge
 returns-4 c =
     let kept = c .before .before in
-    let put = kept .before .before .before .before .before .before .before in
+    let put = kept .before .before .before .before .before .before .before .before in
     let taken = put .before .before in
     let picked = taken .before in
-    let judged = picked .before .before .before .before in
-    rw (
-      not-full (judged .before .before .before .before),
-      le-ltb _ _ (roomy (judged .before)),
-      kept-roomy judged,
-      ← picked .pick .ensures,
-      eq-eqb _ _ (taken .if4 .taken),
-      put .put .ensures,
-      le-leb _ _ (roomy (judged .before)),
-      kept .keep .ensures,
-      placed judged,
-    )
+    let judged = picked .before .before .before .before .before in
+    let written = rw (le-leb _ _ (roomy (judged .before))) at (put .put .ensures) in
+    let keeps = rw (placed judged) at (kept .keep .ensures) in
+    past-taken _ _ _ _ (room-there judged) (picked .pick .ensures) (taken .if4 .taken) written keeps
 
 same-length-5 : tie.Need-same-length-5
 same-length-5 c = search needs
 
 returns-5 : tie.Need-returns-5
-unfolding logged judge
 returns-5 c =
     let picked = c .before in
-    let judged = picked .before .before .before .before in
-    rw (
-      not-full (judged .before .before .before .before),
-      le-ltb _ _ (roomy (judged .before)),
-      kept-roomy judged,
-      ← picked .pick .ensures,
-      ne-eqb _ _ (c .if4 .left),
-    )
+    let judged = picked .before .before .before .before .before in
+    past-refused _ _ _ _ (room-there judged) (picked .pick .ensures) (c .if4 .left)
 
 pub logged-spec : {M : Type 1} → statement M
 logged-spec =

@@ -33,6 +33,9 @@ positions-requires c κs = search needs
 priorities-requires : tie.Need-priorities-requires
 priorities-requires c κs = search needs
 
+counts-requires : tie.Need-counts-requires
+counts-requires c κs = search needs
+
 n-requires : tie.Need-n-requires
 n-requires c κs = search needs
 
@@ -47,23 +50,24 @@ parts-sound-requires c κs = search needs
 
 -- what was asked of the state
 asked : (c : tie.After-parts-sound) →
-    let a = c .before .before .before .before .before .before .before .before .before .before .before .before .args in
+    let a = c .before .before .before .before .before .before .before .before .before .before .before .before .before .before .args in
     sound-state (a .list .now) (recalled (a .part .now)) ≡ c .parts-sound .result
 asked c =
-    let m = c .before .before .before in
+    let m = c .before .before .before .before in
     let b = m .before in
     let n = b .before in
-    let priorities = n .before in
+    let counts = n .before in
+    let priorities = counts .before in
     let positions = priorities .before in
     let a = positions .before .before .before .before .before .args in
-    sym (rw (positions .positions .ensures, priorities .priorities .ensures, n .n .ensures, b .b .ensures, m .m .ensures) at (c .parts-sound .ensures)
+    sym (rw (positions .positions .ensures, priorities .priorities .ensures, counts .counts .ensures, n .n .ensures, b .b .ensures, m .m .ensures) at (c .parts-sound .ensures)
     ∙ sound-whatever (a .list .now) (recalled (a .part .now)))
 
 returns-2 : tie.Need-returns-2
 unfolding usable
 returns-2 c =
-    let read = c .before .before .before .before in
-    rw (zeros-are (read .before .before .before .before .before), asked (c .before) ∙ not-true _ (c .if2 .taken))
+    let read = c .before .before .before .before .before in
+    rw (zeros-are (read .before .before .before .before .before .before), asked (c .before) ∙ not-true _ (c .if2 .taken))
 
 cast-result : tie.Need-cast-result
 cast-result c = search needs
@@ -77,10 +81,10 @@ mul-result c = search needs
 returns-3 : tie.Need-returns-3
 unfolding usable
 returns-3 c =
-    let m = c .before .before .before .before in
+    let m = c .before .before .before .before .before in
     let b = m .before in
     rw (
-      zeros-are (b .before .before .before .before),
+      zeros-are (b .before .before .before .before .before),
       asked (c .before) ∙ not-false _ (c .if2 .left),
       m .m .ensures,
       b .b .ensures,
@@ -94,6 +98,7 @@ right-spec =
     returns
     positions-requires
     priorities-requires
+    counts-requires
     n-requires
     b-requires
     m-requires

@@ -50,9 +50,9 @@ empty-requires c κs = search needs
 
 returns-4 : tie.Need-returns-4
 returns-4 c =
-    let low = c .before .before .before in
+    let low = c .before .before .before .before in
     let bounded = low .before .before in
-    let placed = bounded .before .before in
+    let placed = bounded .before .before .before in
     let found = placed .before .before .before in
     let small = found .before in
     let tested = small .before in

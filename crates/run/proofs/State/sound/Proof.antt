@@ -12,7 +12,7 @@ parts-sound-requires c κs = search needs
 
 returns : tie.Need-returns
 returns c =
-    let a = c .before .before .before .before .before .before .args in
+    let a = c .before .before .before .before .before .before .before .before .args in
     c .parts-sound .ensures ∙ sound-whatever (a .list .now) (as-state (a .self))
 
 pub sound-spec : {M : Type 1} → statement M

@@ -10,7 +10,7 @@ use Rattle.rules.specs.State.{State}
 use Rattle.rules.specs.Lent.{Lent}
 use Rattle.rules.specs.Undo.{nearest, replayed-near}
 use Rattle.picking.specs.Took.{Took}
-use Rattle.replaying.specs.Replayed.{took-from, as-took}
+use Rattle.replaying.specs.Replayed.{took-from, took-of, as-took}
 use Rattle.laws.specs.Passed.{CanReplay}
 use Rattle.laws.proofs.Passed.{replay-passed}
 use Rattle.laws.proofs.Answers.{undo-refused-before}
@@ -52,7 +52,7 @@ cast-replay c = search needs
 
 add-replay : tie.Need-add-replay
 add-replay c =
-    let can = passed (c .before .before .before .before .before .before .before) in
+    let can = passed (c .before .before .before .before .before .before .before .before .before) in
     omega (arith, sound-means _ _ .0 (can .of-state) .few-steps, counted _ _ _ can, few-stations _ (can .of-list))
 
 sub-replay : tie.Need-sub-replay
@@ -67,29 +67,29 @@ back : (c : tie.After-nearest) {t : Took} → let start = c .before .before .bef
     let found = c .nearest .result in
     let q = nearest (a .self .m) in
     t ≡ took-from (a .list .now) (a .log .now) (a .self .n) (a .self .b) (a .self .n + kept-every * q) (a .self .m - 1 - kept-every * q)
-    (record { number = 0; vars = found .vars; positions = found .positions; priorities = found .priorities })
+    (took-of 0 (as-state found))
     → t ≡ as-took (replayed-near (a .list .now) (lent start) (a .self .b) (a .self .m))
 back c is =
     let a = c .before .before .before .before .before .before .before .args in
     let q = nearest (a .self .m) in
-    near-took _ _ _ (passed (c .before .before))
+    near-took _ _ _ (passed (c .before .before)) (omega arith)
     (is
     ∙ ap
     (λ (s : State).
     took-from (a .list .now) (a .log .now) (a .self .n) (a .self .b) (a .self .n + kept-every * q) (a .self .m - 1 - kept-every * q)
-    (record { number = 0; vars = s .vars; positions = s .positions; priorities = s .priorities }))
+    (took-of 0 s))
     (c .nearest .ensures))
 
 returns-2 : tie.Need-returns-2
 returns-2 c =
     let done = c .before in
-    let found = done .before .before .before .before .before .before in
+    let found = done .before .before .before .before .before .before .before .before in
     rw (undo-took _ _ _ (passed (found .before .before)) (back found (done .replay .ensures)), ne-eqb _ _ (c .if2 .taken))
 
 returns-3 : tie.Need-returns-3
 returns-3 c =
     let done = c .before in
-    let found = done .before .before .before .before .before .before in
+    let found = done .before .before .before .before .before .before .before .before in
     let can = passed (found .before .before) in
     rw (
       undo-took _ _ _ can (back found (done .replay .ensures)),

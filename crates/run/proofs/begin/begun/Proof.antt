@@ -38,8 +38,8 @@ first-priorities-requires c κs = search needs
 few : (c : tie.After-stations) → c .stations .result ≤ max-stations
 few c = omega (arith, c .stations .ensures, few-stations _ (c .before .before .before .pre))
 
-cast-t13 : tie.Need-cast-t13
-cast-t13 c = omega (arith, few (c .before .before .before .before .before))
+cast-t14 : tie.Need-cast-t14
+cast-t14 c = omega (arith, few (c .before .before .before .before .before))
 
 returns : tie.Need-returns
 unfolding restarted started
@@ -70,5 +70,5 @@ begun-spec =
     initial-run-requires
     first-steps-requires
     first-priorities-requires
-    cast-t13
+    cast-t14
     returns)

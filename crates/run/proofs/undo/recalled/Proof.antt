@@ -13,6 +13,9 @@ positions-requires c κs = search needs
 priorities-requires : tie.Need-priorities-requires
 priorities-requires c κs = search needs
 
+counts-requires : tie.Need-counts-requires
+counts-requires c κs = search needs
+
 n-requires : tie.Need-n-requires
 n-requires c κs = search needs
 
@@ -26,12 +29,14 @@ returns : tie.Need-returns
 returns c =
     let b = c .before in
     let n = b .before in
-    let priorities = n .before in
+    let counts = n .before in
+    let priorities = counts .before in
     let positions = priorities .before in
     rw (
       positions .before .vars .ensures,
       positions .positions .ensures,
       priorities .priorities .ensures,
+      counts .counts .ensures,
       n .n .ensures,
       b .b .ensures,
       c .m .ensures,
@@ -44,6 +49,7 @@ recalled-spec =
     vars-requires
     positions-requires
     priorities-requires
+    counts-requires
     n-requires
     b-requires
     m-requires

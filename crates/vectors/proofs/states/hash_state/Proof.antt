@@ -1,4 +1,4 @@
--- `vectors::states::hash_state` is safe and ends. Nothing has to hold from turn to turn; the measure is what is left of the 48 numbers. Assumes nothing.
+-- `vectors::states::hash_state` is safe and ends. Nothing has to hold from turn to turn; the measure is what is left of the 56 numbers. Assumes nothing.
 use Prim.Native.Nat.{_-_}
 use borrow.Author.Needs.{needs}
 use Rattle.vectors.proofs.states.hash_state.Statement.{statement}
@@ -8,7 +8,7 @@ abbrev Inv-loop : tie.InvT-loop
 Inv-loop state h₀ i₀ h i = Unit {0}
 
 abbrev μ-loop : tie.MeasureT-loop
-μ-loop state h₀ i₀ h i = 48 - i
+μ-loop state h₀ i₀ h i = 56 - i
 
 loop-holds : tie.Need-loop-holds Inv-loop μ-loop
 loop-holds c = search needs

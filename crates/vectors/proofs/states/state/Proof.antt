@@ -1,4 +1,4 @@
--- `vectors::states::state` is safe and ends. Nothing has to hold from turn to turn; the measure is what is left of the 48 numbers. Assumes nothing.
+-- `vectors::states::state` is safe and ends. Nothing has to hold from turn to turn; the measure is what is left of the 56 numbers. Assumes nothing.
 use Prim.Native.Nat.{_-_}
 use borrow.Author.Needs.{needs}
 use Rattle.vectors.proofs.states.state.Statement.{statement}
@@ -8,7 +8,7 @@ abbrev Inv-loop : tie.InvT-loop
 Inv-loop file state₀ i₀ state i = Unit {0}
 
 abbrev μ-loop : tie.MeasureT-loop
-μ-loop file state₀ i₀ state i = 48 - i
+μ-loop file state₀ i₀ state i = 56 - i
 
 half-requires : tie.Need-half-requires Inv-loop μ-loop
 half-requires c κs = search needs

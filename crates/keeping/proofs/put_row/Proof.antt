@@ -1,4 +1,4 @@
--- `keeping::put_positions` meets its contract. The loop's invariant: the positions passed are put in. The measure is what is left of them.
+-- `keeping::put_row` meets its contract. The loop's invariant: the numbers passed are put in. The measure is what is left of them.
 -- Assumes nothing.
 use Prim.Native.Nat.{_-_, _≤_}
 use mathlib.Core.Path.{_≡_, refl, sym}
@@ -10,15 +10,15 @@ use Rattle.rules.specs.Words.{joined, written}
 use Rattle.rules.specs.Kept.{in-two}
 use Rattle.laws.proofs.Written.{written-none}
 use Rattle.keeping.proofs.Put.{joined-turn}
-use Rattle.keeping.proofs.put_positions.Statement.{statement}
-use Rattle.keeping.proofs.put_positions.Tie as tie
+use Rattle.keeping.proofs.put_row.Statement.{statement}
+use Rattle.keeping.proofs.put_row.Tie as tie
 
 abbrev Inv-loop : tie.InvT-loop
-Inv-loop place₀ positions j₀ place j =
-    (j ≤ length positions) × (length place ≡ length place₀) × (place ≡ written place₀ 128 (joined in-two (take j positions)))
+Inv-loop place₀ at row j₀ place j =
+    (j ≤ length row) × (length place ≡ length place₀) × (place ≡ written place₀ at (joined in-two (take j row)))
 
 abbrev μ-loop : tie.MeasureT-loop
-μ-loop place₀ positions j₀ place j = length positions - j
+μ-loop place₀ at row j₀ place j = length row - j
 
 loop-holds : tie.Need-loop-holds Inv-loop μ-loop
 unfolding joined
@@ -52,7 +52,7 @@ loop-again c =
     let inv = turn .before .loop .inv in (
       search needs,
       omega (arith, put .kept .0, inv .1),
-      joined-turn in-two 2 (λ x. refl) _ _ _ 128 _ _ _ 0 (turn .loop-test .taken) (search needs) (omega arith) (inv .2) (put .ensures),
+      joined-turn in-two 2 (λ x. refl) _ _ _ _ _ _ _ 0 (turn .loop-test .taken) (search needs) (omega arith) (inv .2) (put .ensures),
     )
 
 same-length : tie.Need-same-length Inv-loop μ-loop
@@ -61,10 +61,10 @@ same-length c = search needs
 returns : tie.Need-returns Inv-loop μ-loop
 returns c =
     let a = c .before .before .before .before .args in
-    rw (take-all (c .before .loop .j) (a .positions .now) (omega arith)) at (c .before .loop .inv .2)
+    rw (take-all (c .before .loop .j) (a .row .now) (omega arith)) at (c .before .loop .inv .2)
 
-pub put-positions-spec : {M : Type 1} → statement M
-put-positions-spec =
+pub put-row-spec : {M : Type 1} → statement M
+put-row-spec =
     tie.close
     (tie.spec
     Inv-loop

@@ -1,20 +1,17 @@
--- `soundness::position` meets its contract.
+-- `soundness::entry` meets its contract.
 -- Assumes nothing.
 use mathlib.Core.Path.{_≡_, sym}
 use native.Mathlib.Omega.{arith}
 use lib.ListN.{length, List·getD-eq-default}
 use borrow.Author.Needs.{needs}
-use Rattle.soundness.proofs.position.Statement.{statement}
-use Rattle.soundness.proofs.position.Tie as tie
+use Rattle.soundness.proofs.entry.Statement.{statement}
+use Rattle.soundness.proofs.entry.Tie as tie
 
 mul-result : tie.Need-mul-result
 mul-result c = search needs
 
 array-read-result : tie.Need-array-read-result
 array-read-result c = search needs
-
-cast-result : tie.Need-cast-result
-cast-result c = search needs
 
 returns : tie.Need-returns
 returns c = search needs
@@ -25,6 +22,6 @@ returns-2 c =
     let eight : length (a .t1) ≡ 8 = search needs in
     sym (List·getD-eq-default (a .t1) 0 {n = a .j} (omega arith))
 
-pub position-spec : {M : Type 1} → statement M
-position-spec =
-    tie.close (tie.spec mul-result array-read-result cast-result returns returns-2)
+pub entry-spec : {M : Type 1} → statement M
+entry-spec =
+    tie.close (tie.spec mul-result array-read-result returns returns-2)
