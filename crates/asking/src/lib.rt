@@ -1,4 +1,6 @@
 // What a panel asks of one station: whether it is ready, has ended or is waiting, and where, of any list and any state whatever.
+#![tactic(auto)]
+
 ghost use Rattle.std.specs.Prelude.{◌≡◌};
 ghost use Rattle.rules.specs.Words.{answer};
 ghost use Rattle.run.specs.View.{as_state};

@@ -1,11 +1,13 @@
 // Building a list from a written sequence: check's refusals first, then ROOM. A refusal leaves the lent buffer as it was.
+#![tactic(auto)]
+
 ghost use Rattle.build.specs.Promises.{BuildPromise};
 
 use record::Record;
 
 // What building answers: 0 or the number of the refusal, the place of a record, and the count of list records, 0 where it refuses.
 #[repr(C)]
-#[derive(Drop)]
+#[derive(Clone, Copy)]
 pub struct Built {
     pub number: u8,
     pub place: u16,

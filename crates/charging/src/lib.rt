@@ -1,5 +1,7 @@
 // FAIR's charge and the counts of being passed over: what a step does to the priorities and counts, of any values, in the arrays that are lent.
 // A priority that is as low as 16 bits go stays where it would lose 1, and a count that is as high as they go where it would gain 1.
+#![tactic(auto)]
+
 ghost use Rattle.std.specs.Prelude.{◌≡◌, false, eqb, get_or};
 ghost use Rattle.rules.specs.Words.{if◌then◌else◌, changed};
 ghost use Rattle.rules.specs.Names.{max_stations};

@@ -1,5 +1,7 @@
 // Whether one record of a built-in list is right: an INIT, an initial record, a later one. The number of stations and the place of the first
 // later record are handed on, and the record is decoded once.
+#![tactic(auto)]
+
 ghost use Rattle.std.specs.Prelude.{◌≡◌, [], ◌∷◌};
 ghost use Rattle.rules.specs.Words.{among};
 ghost use Rattle.rules.specs.Names.{SKIP, SET, IF, WHILE, AWAIT, STOP};

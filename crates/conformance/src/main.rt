@@ -2,6 +2,8 @@
 // and prints one answer line a case. The head of independent/cases.c says how a case and its line are spelled.
 // Both files are the independent program's, which independent/build.sh makes: `independent/cases write 1` writes data/cases.bin, and
 // `independent/cases answer`, given that, prints the file stdout.
+#![tactic(auto)]
+
 use traces::TRACE;
 
 mod traces;

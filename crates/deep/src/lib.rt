@@ -1,5 +1,7 @@
 // Reading a part that lies deeper than an accepted file has, with no call for each part that is open: what closes it, and whether it stands
 // in a body, are kept in two rows, so that no file takes more stack than these.
+#![tactic(auto)]
+
 ghost use Rattle.std.specs.Prelude.{◌≡◌, false, [], ◌*◌, ◌≤◌, length};
 ghost use Rattle.rules.specs.Names.{max_records};
 ghost use Rattle.rules.specs.Check.{kinds};
@@ -9,7 +11,7 @@ use parts::{Part, Stride};
 use record::Record;
 
 // What reading a part finds.
-#[derive(Drop)]
+#[derive(Clone, Copy)]
 pub enum Read {
     // The record at this place closes the part.
     Closed(usize),

@@ -1,4 +1,6 @@
 // The records of a list, each from the numbers that it holds, and what is read on the way: an entry, one less, whether a kind is a step.
+#![tactic(auto)]
+
 ghost use Rattle.std.specs.Prelude.{◌≡◌, ◌-◌, get_or, [], ◌∷◌};
 ghost use Rattle.rules.specs.Words.{among};
 ghost use Rattle.rules.specs.Names.{SKIP, SET, IF, WHILE, AWAIT, INIT, STOP};

@@ -1,4 +1,6 @@
 // What a panel asks of a station that was not picked: why not, of any list and any state whatever.
+#![tactic(auto)]
+
 ghost use Rattle.std.specs.Prelude.{◌≡◌, false, ◌&&◌, ◌≤◌, ◌<◌, get_or};
 ghost use Rattle.rules.specs.Words.{if◌then◌else◌, first};
 ghost use Rattle.rules.specs.Records.{list_record_at};

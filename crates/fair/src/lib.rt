@@ -1,1 +1,2 @@
 // Theorems about the steps that FAIR allows. They are proofs, under proofs/; there is no code here.
+#![tactic(auto)]

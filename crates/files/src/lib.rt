@@ -1,4 +1,6 @@
 // What the programs over a folder share: a file is read, and a text is written.
+#![tactic(auto)]
+
 ghost use Rattle.io.specs.Counts.{IsPrefixLen};
 
 use libc::STDOUT_FILENO;

@@ -1,1 +1,2 @@
 // The wrong programs that the demands shut out. They are proofs, under proofs/; there is no code here.
+#![tactic(auto)]

@@ -1,1 +1,2 @@
 // Theorems about histories of calls. They are proofs, under proofs/; there is no code here.
+#![tactic(auto)]

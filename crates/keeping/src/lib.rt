@@ -1,4 +1,6 @@
 // Whole run states put into their kept places, over any buffer and any state whatever. docs/KEPT.md gives the bytes of a kept place.
+#![tactic(auto)]
+
 ghost use Rattle.std.specs.Prelude.{◌≡◌, ◌++◌, ◌∷◌, ◌+◌, ◌*◌, ◌≤◌, length, replicate};
 ghost use Rattle.rules.specs.Words.{if◌then◌else◌, joined, written};
 ghost use Rattle.rules.specs.Names.{kept_length};

@@ -1,4 +1,6 @@
 // The record of a list that is laid for a record of the file, by what is known of the layout there.
+#![tactic(auto)]
+
 ghost use Rattle.std.specs.Prelude.{◌≡◌};
 ghost use Rattle.record.specs.View.{as_record, as_list_record};
 ghost use Rattle.layout.specs.Layout.{lays as lays_of, record_for};

@@ -1,1 +1,2 @@
 // Laws about the rules' words. They are proofs, under proofs/; there is no code here.
+#![tactic(auto)]

@@ -1,5 +1,7 @@
 // Laying out the list of a written sequence that was checked: two passes over the file, the first for its loops, and one over the
 // stations. Each function is defined on any file; that the list is the rules' where the file was accepted is proved in the crate `build`.
+#![tactic(auto)]
+
 ghost use Rattle.std.specs.Prelude.{◌≡◌};
 ghost use Rattle.rules.specs.Records.{records};
 ghost use Rattle.laying.specs.Laid.{lay_record, lay_records, lay_inits, laid_out, step_count};

@@ -1,5 +1,7 @@
 // Laying out a list. The records of the file are read from the last to the first, and the records of the list are laid from its end to
 // its start, so that the step that comes next is always known. Only a loop's last step leads back: its WHILE's place is looked up.
+#![tactic(auto)]
+
 ghost use Rattle.std.specs.Prelude.{◌≡◌, ◌-◌, get_or};
 ghost use Rattle.layout.specs.Layout.{before_last, stepped, pushed, switched, popped, turned, after_kind};
 
@@ -10,7 +12,7 @@ use record::Record;
 const PARTS: usize = Record::MAX_DEPTH + 1;
 
 // What is known while a list is laid out. Each part that is open has a place in two arrays.
-#[derive(Drop)]
+#[derive(Clone, Copy)]
 pub struct Laying {
     // where the record laid last stands
     pub place: u16,

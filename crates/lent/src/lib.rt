@@ -1,4 +1,6 @@
 // A run's state that is lent and advanced in place.
+#![tactic(auto)]
+
 ghost use Rattle.run.specs.View.{as_state};
 ghost use Rattle.lent.specs.Promises.{AdvancePromise};
 

@@ -4,7 +4,7 @@ ghost use Rattle.std.specs.Prelude.{◌≡◌};
 // 0 or a refusal's number; four station masks, bit i for station i: ready, in turn, waiting and ended; and two rows of 32 station masks,
 // which stations' next steps read, and which write, each variable.
 #[repr(C)]
-#[derive(Drop)]
+#[derive(Clone, Copy)]
 pub struct Lights {
     pub number: u8,
     pub ready: u8,

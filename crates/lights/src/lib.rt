@@ -1,5 +1,7 @@
 // The lights: which stations are ready, in turn, waiting and ended, and which read and write each variable next, of any list and any state
 // whatever. `answer` has what they answer; `masks` gathers it.
+#![tactic(auto)]
+
 ghost use Rattle.std.specs.Prelude.{◌≡◌};
 ghost use Rattle.run.specs.View.{as_state};
 ghost use Rattle.lights.specs.View.{as_lights, refused_by};

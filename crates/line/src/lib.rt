@@ -1,4 +1,6 @@
 // The line of a state: m, the ready mask, the in-turn mask, the priorities and the counts.
+#![tactic(auto)]
+
 ghost use Rattle.std.specs.Prelude.{◌≡◌, [], ◌∷◌, ◌++◌, ◌*◌, ◌≤◌, length, take};
 ghost use Rattle.rules.specs.Names.{max_stations};
 ghost use Rattle.rules.specs.Trace.{decimal, priorities_text, counts_text};

@@ -1,5 +1,7 @@
 // Whether bytes are a sound built-in list: the document's "A list is sound when", of any bytes whatever. The number of stations and the
 // place of the first later record are counted once and handed on; `clauses` judges each record.
+#![tactic(auto)]
+
 ghost use Rattle.std.specs.Prelude.{◌≡◌, ◌+◌, ◌-◌};
 ghost use Rattle.rules.specs.Words.{each};
 ghost use Rattle.rules.specs.Records.{list_count};

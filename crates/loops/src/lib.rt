@@ -1,4 +1,6 @@
 // Where the WHILE of each OD stands in the list, so that a loop's last step can lead back to it.
+#![tactic(auto)]
+
 ghost use Rattle.std.specs.Prelude.{◌≡◌, get_or, [], ◌∷◌};
 ghost use Rattle.rules.specs.Words.{among};
 ghost use Rattle.rules.specs.Names.{STATION, SKIP, SET, IF, AWAIT, WHILE, OD};
@@ -15,7 +17,7 @@ const OPEN: usize = Record::MAX_DEPTH + 1;
 const MAX_LOOPS: usize = Record::MAX_RECORDS / 2;
 
 // What is known while loops are sought. Each loop that is open has a place in the array.
-#[derive(Drop)]
+#[derive(Clone, Copy)]
 pub struct Seeking {
     // where the next record of the file stands in the list
     pub place: u16,
@@ -28,7 +30,7 @@ pub struct Seeking {
 }
 
 // The places of WHILE records, in the order of their ODs, and how many there are.
-#[derive(Drop)]
+#[derive(Clone, Copy)]
 pub struct Loops {
     pub found: usize,
     pub places: [u16; MAX_LOOPS],

@@ -1,5 +1,7 @@
 // The station masks, gathered from the last station down to station 0: each takes bit 0, and those after it move up. They are of any list
 // and of the parts of any state, of eight stations at most.
+#![tactic(auto)]
+
 ghost use Rattle.std.specs.Prelude.{◌≡◌, ℕ, ◌<◌, false, get_or};
 ghost use Rattle.rules.specs.Words.{values};
 ghost use Rattle.rules.specs.Names.{variables};
@@ -12,7 +14,7 @@ use touches::Touched;
 
 // Of the stations from one on, which is bit 0: those that are ready, in turn, waiting and ended; and for each variable those whose next
 // step reads it, and those whose next step writes it. One that waits only reads, in its condition.
-#[derive(Drop)]
+#[derive(Clone, Copy)]
 pub struct Masks {
     pub ready: u8,
     pub in_turn: u8,

@@ -1,5 +1,7 @@
 // What a station's step, an AWAIT's body and the initial part make of the 32 variables, which are changed where they are, and where a
 // step leads. A list is read as a run reads it, narrowed.
+#![tactic(auto)]
+
 ghost use Rattle.std.specs.Prelude.{◌≡◌};
 ghost use Rattle.rules.specs.Start.{initial_run};
 ghost use Rattle.rules.specs.Move.{vars_after, target_after, body_run, step_vars, step_position};

@@ -1,5 +1,7 @@
 // A built-in list as a run reads it. On a sound list this is the list, and on any other a and b of a record name variables that are
 // there, so that a run need not ask.
+#![tactic(auto)]
+
 ghost use Rattle.std.specs.Prelude.{◌≡◌};
 ghost use Rattle.rules.specs.Records.{list_record_at};
 ghost use Rattle.laws.specs.Narrow.{narrow};

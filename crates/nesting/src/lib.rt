@@ -1,4 +1,6 @@
 // DEPTH: a count of what is open, over the kinds of the records.
+#![tactic(auto)]
+
 ghost use Rattle.std.specs.Prelude.{◌≡◌, [], ◌∷◌, ◌≤◌};
 ghost use Rattle.rules.specs.Words.{among};
 ghost use Rattle.rules.specs.Names.{FI, OD, END, max_depth};

@@ -1,5 +1,7 @@
 // The positions and priorities that a run begins with, over any list, log and number of stations whatever. There is room for eight
 // stations; those past them are left out.
+#![tactic(auto)]
+
 ghost use Rattle.std.specs.Prelude.{◌≡◌, ◌++◌, ◌-◌, min, pos, replicate};
 ghost use Rattle.rules.specs.Words.{values};
 ghost use Rattle.rules.specs.Names.{max_stations};

@@ -1,4 +1,5 @@
 // The press panel's calls, each under a plain name for C. Another crate calls them by the same names.
+#![tactic(auto)]
 
 mod exports;
 

@@ -1,11 +1,13 @@
 // An open list of statements of a written sequence, and where a record takes the reading of it.
+#![tactic(auto)]
+
 ghost use Rattle.std.specs.Prelude.{◌≡◌};
 ghost use Rattle.parts.specs.Strides.{opened, grown, closed, stride_of};
 
 use record::Record;
 
 // An open list of statements: the kind that closes it, whether it stands in an AWAIT body, and whether it has a statement yet.
-#[derive(Drop)]
+#[derive(Clone, Copy)]
 pub struct Part {
     pub close: u8,
     pub body: bool,
@@ -13,7 +15,7 @@ pub struct Part {
 }
 
 // Where a record takes the reading of a part.
-#[derive(Drop)]
+#[derive(Clone, Copy)]
 pub enum Stride {
     // On, in the same list or in the one that takes its place.
     On(Part),

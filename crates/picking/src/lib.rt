@@ -1,5 +1,7 @@
 // One pick, of the parts of a state: its tests, and the charge, the counts and the move of the station picked. The parts are changed where
 // they are. Whatever is judged before the step is judged before anything is written, and the last test is made before a body runs.
+#![tactic(auto)]
+
 ghost use Rattle.std.specs.Prelude.{◌≡◌};
 ghost use Rattle.laws.specs.Narrow.{narrow};
 ghost use Rattle.picking.specs.Took.{state_of, took};

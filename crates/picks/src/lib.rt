@@ -1,4 +1,6 @@
 // The picks of a trace: when a picks file is wrong, and one pick taken, which is a step or an undo.
+#![tactic(auto)]
+
 ghost use Rattle.std.specs.Prelude.{◌≡◌};
 ghost use Rattle.rules.specs.Trace.{taken_pick, wrong_picks};
 ghost use Rattle.run.specs.View.{as_state, as_stepped};

@@ -1,4 +1,6 @@
 // How far a trace comes: the state that its picks lead to, and its last line.
+#![tactic(auto)]
+
 ghost use Rattle.std.specs.Prelude.{◌≡◌};
 ghost use Rattle.tracing.specs.View.{as_tracing};
 ghost use Rattle.reaching.specs.Reaching.{reached};
@@ -9,7 +11,7 @@ use text::Text;
 use tracing::Tracer;
 
 // What a trace comes to: the state reached, the count of list records, and the last text that is printed.
-#[derive(Drop)]
+#[derive(Clone, Copy)]
 pub struct Reached {
     pub state: State,
     pub count: u16,

@@ -1,4 +1,6 @@
 // Whether a station is ready, has ended or is waiting, by the record where it stands: the one test of a STOP and of an AWAIT's condition.
+#![tactic(auto)]
+
 ghost use Rattle.std.specs.Prelude.{◌≡◌};
 ghost use Rattle.rules.specs.Ready.{told, readiness_at, says_ready, says_ended, says_waiting};
 ghost use Rattle.record.specs.View.{as_list_record};
@@ -7,7 +9,7 @@ ghost use Rattle.readiness.specs.View.{as_readiness, as_told};
 use record::{ListRecord, Record};
 
 // What a station is: ready; ended, at a STOP; or waiting, at the AWAIT with this record number.
-#[derive(Drop)]
+#[derive(Clone, Copy)]
 pub enum Readiness {
     Ready,
     Ended,
@@ -16,7 +18,7 @@ pub enum Readiness {
 
 // What that stands for: 0 where the station is ready, else the refusal of its pick; and the record where it waits, 0 where it does not.
 #[repr(C)]
-#[derive(Drop)]
+#[derive(Clone, Copy)]
 pub struct Told {
     pub number: u8,
     pub place: u16,

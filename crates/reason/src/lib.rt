@@ -1,4 +1,6 @@
 // Why a station was not picked: one reason, and the number and the values that it stands for.
+#![tactic(auto)]
+
 ghost use Rattle.std.specs.Prelude.{◌≡◌, get_or};
 ghost use Rattle.rules.specs.Why.{bare, said, seen};
 ghost use Rattle.reason.specs.View.{as_seen, as_reason, as_why};
@@ -6,7 +8,7 @@ ghost use Rattle.reason.specs.View.{as_seen, as_reason, as_why};
 use record::Record;
 
 // A variable that a condition names, and its value.
-#[derive(Drop)]
+#[derive(Clone, Copy)]
 pub struct Seen {
     pub variable: u8,
     pub value: u32,
@@ -14,7 +16,7 @@ pub struct Seen {
 
 // The reason: the station has ended; it waits at the AWAIT with this record number, for a variable or for two; it is behind this station; or
 // there is none, and it may be picked.
-#[derive(Drop)]
+#[derive(Clone, Copy)]
 pub enum Reason {
     Ended,
     Waiting(u16, Seen),
@@ -26,7 +28,7 @@ pub enum Reason {
 // What that stands for: 0 where the station may be picked, else the refusal of its pick; the station that is ahead of it; the record where it
 // waits; and how many variables its condition names, which they are, and their values. What does not go with the number is 0.
 #[repr(C)]
-#[derive(Drop)]
+#[derive(Clone, Copy)]
 pub struct Why {
     pub number: u8,
     pub ahead: u8,

@@ -1,5 +1,7 @@
 // The state in a kept place, read part by part from the bytes of a buffer that begin there. docs/KEPT.md gives the bytes of a kept
 // place. Where there are fewer than its 184 everything is zero.
+#![tactic(auto)]
+
 ghost use Rattle.std.specs.Prelude.{◌≡◌, ◌&&◌, ◌+◌, ◌*◌, ◌≤◌, eqb, leb, length, get_or, replicate};
 ghost use Rattle.rules.specs.Words.{if◌then◌else◌, each, values};
 ghost use Rattle.rules.specs.Names.{max_stations, kept_length};

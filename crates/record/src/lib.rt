@@ -1,5 +1,7 @@
 // Records of a written sequence and of a built-in list, decoded from their bytes. Past the end of the bytes everything is zero.
 // `names` has the document's numbers by name.
+#![tactic(auto)]
+
 ghost use Rattle.std.specs.Prelude.{◌≡◌, ◌+◌, ◌*◌, ◌/◌, ◌≤◌, length};
 ghost use Rattle.rules.specs.Records.{record_from, record_at, list_record_at};
 ghost use Rattle.record.specs.View.{as_record, as_list_record, list_record_from, sixteen_from};
@@ -7,7 +9,7 @@ ghost use Rattle.record.specs.View.{as_record, as_list_record, list_record_from,
 mod names;
 
 // Eight bytes of a written sequence: kind, a, b, op, then k.
-#[derive(Drop)]
+#[derive(Clone, Copy)]
 pub struct Record {
     pub kind: u8,
     pub a: u8,
@@ -17,7 +19,7 @@ pub struct Record {
 }
 
 // Sixteen bytes of a built-in list: a record, its station, 1 inside an AWAIT body, two targets, two bytes to spare.
-#[derive(Drop)]
+#[derive(Clone, Copy)]
 pub struct ListRecord {
     pub own: Record,
     pub station: u8,

@@ -1,4 +1,6 @@
 // The replay of a log's records on the parts of a state.
+#![tactic(auto)]
+
 ghost use Rattle.std.specs.Prelude.{◌≡◌, get_or};
 ghost use Rattle.replaying.specs.Replayed.{took_from};
 

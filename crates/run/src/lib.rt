@@ -1,4 +1,5 @@
 // A run: its state, and the calls that start it, step it, run it and take a step back, over any list, state and log whatever.
+#![tactic(auto)]
 
 mod begin;
 mod run;
@@ -11,7 +12,7 @@ pub use begin::start;
 // What a run has reached: the variables, each station's position, priority and count of being passed over, the number of stations n, the largest
 // reset b, and the number of standing steps m.
 #[repr(C)]
-#[derive(Drop)]
+#[derive(Clone, Copy)]
 pub struct State {
     pub vars: [u32; 32],
     pub positions: [u16; 8],
@@ -24,7 +25,7 @@ pub struct State {
 
 // What a start, a step and an undo answer: 0 and the state reached, or a refusal's number and the state given, which is zeros for a start.
 #[repr(C)]
-#[derive(Drop)]
+#[derive(Clone, Copy)]
 pub struct Outcome {
     pub number: u8,
     pub state: State,
@@ -32,7 +33,7 @@ pub struct Outcome {
 
 // What a run answers: 0 or the refusal that ended it, the state reached, and the steps taken.
 #[repr(C)]
-#[derive(Drop)]
+#[derive(Clone, Copy)]
 pub struct Ran {
     pub number: u8,
     pub state: State,

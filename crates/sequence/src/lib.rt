@@ -1,5 +1,7 @@
 // Checks a written sequence: five tests in their order, each over the whole file.
 // The crate `shape` reads the parts of the file, `nesting` counts what is open.
+#![tactic(auto)]
+
 ghost use Rattle.std.specs.Prelude.{◌≡◌};
 ghost use Rattle.rules.specs.Check.{wrong_length, field_place, station_count};
 ghost use Rattle.sequence.specs.Answer.{answer, as_answer, wrong_count};
@@ -10,7 +12,7 @@ use shape::Shape;
 
 // What checking answers: 0 or the number of the refusal, and the place of a record.
 #[repr(C)]
-#[derive(Drop)]
+#[derive(Clone, Copy)]
 pub struct Checked {
     pub number: u8,
     pub place: u16,

@@ -1,4 +1,6 @@
 // SHAPE: the parts of a file, each read from the record after the one that opens it.
+#![tactic(auto)]
+
 ghost use Rattle.std.specs.Prelude.{◌≡◌, false, [], ◌*◌, ◌≤◌, length};
 ghost use Rattle.rules.specs.Names.{STATION, max_records};
 ghost use Rattle.rules.specs.Check.{kinds};
@@ -11,7 +13,7 @@ use parts::{Part, Stride};
 use record::Record;
 
 // The shape of a file.
-#[derive(Drop)]
+#[derive(Clone, Copy)]
 pub enum Shape {
     // It is well shaped.
     Whole,

@@ -1,4 +1,6 @@
 // Bytes of the files and buffers of the programs over a folder, and how many of a list's are its records.
+#![tactic(auto)]
+
 ghost use Rattle.std.specs.Prelude.{◌≡◌, [], ◌∷◌, ◌*◌, take};
 ghost use Rattle.sizes.specs.Sizes.{enough, enough_starts, list_bytes, log_bytes, kept_bytes};
 

@@ -1,4 +1,6 @@
 // What a sound state asks of the positions, the priorities and the counts, clause by clause, of any values.
+#![tactic(auto)]
+
 ghost use Rattle.std.specs.Prelude.{◌≡◌, suc, ◌+◌, ◌-◌, get_or, pos, neg_ℤ};
 ghost use Rattle.std.specs.Int.Signed.{le_z};
 ghost use Rattle.rules.specs.Words.{each, tally};

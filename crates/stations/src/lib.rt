@@ -1,5 +1,7 @@
 // Which stations are ready, and whether one of them is lower, of the parts of a state alone: the record of a station's next step, the
 // variables, the positions and the priorities. A state is copied whole wherever it is passed, and a part of it is small.
+#![tactic(auto)]
+
 ghost use Rattle.std.specs.Prelude.{◌≡◌, false, replicate, min};
 ghost use Rattle.rules.specs.Words.{each, changed};
 ghost use Rattle.rules.specs.Names.{max_stations};

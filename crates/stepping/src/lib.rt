@@ -1,4 +1,6 @@
 // One step of the parts of a state, its record in the log and the state that it keeps, past the tests of the list and of the state.
+#![tactic(auto)]
+
 ghost use Rattle.std.specs.Prelude.{◌≡◌};
 ghost use Rattle.laws.specs.Parts.{of_parts, steps_after};
 ghost use Rattle.stepping.specs.Logged.{logged};

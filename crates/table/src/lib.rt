@@ -1,4 +1,6 @@
 // What the fields of a record may hold, by its kind and its op: a table, and the test of a record against it.
+#![tactic(auto)]
+
 ghost use Rattle.std.specs.Prelude.{◌≡◌, ℕ, ◌<◌, ◌^◌, ltb};
 ghost use Rattle.rules.specs.Fields.{Rule, obeys, rules_of, fields_right};
 ghost use Rattle.record.specs.View.{as_record};

@@ -1,5 +1,7 @@
 // Where the records of a built-in list may lead: whether a place has an outside or an inside record of a station, and whether the targets
 // of a record are right. The place of the first later record is handed on.
+#![tactic(auto)]
+
 ghost use Rattle.std.specs.Prelude.{◌≡◌, suc, eqb};
 ghost use Rattle.record.specs.View.{as_list_record};
 ghost use Rattle.rules.specs.List.{is_at, outside_targets, inside_target, inside_targets};

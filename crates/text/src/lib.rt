@@ -1,4 +1,6 @@
 // A text that is made from its front on, and numbers in decimal.
+#![tactic(auto)]
+
 ghost use Rattle.std.specs.Prelude.{◌≡◌, [], ◌∷◌, ◌++◌, take};
 ghost use Rattle.rules.specs.Trace.{decimal as decimal_of, signed as signed_of, end_line as end_line};
 ghost use Rattle.text.specs.View.{max_line, text_of};
@@ -8,7 +10,7 @@ ghost use Rattle.text.specs.View.{max_line, text_of};
 const MAX_LINE: usize = 118;
 
 // A text: the first `len` of the bytes.
-#[derive(Drop)]
+#[derive(Clone, Copy)]
 pub struct Text {
     pub bytes: [u8; MAX_LINE],
     pub len: u8,

@@ -1,4 +1,6 @@
 // Which variables a station's next step touches: what it reads and what it writes, itself and, at an AWAIT that is ready, in its body.
+#![tactic(auto)]
+
 ghost use Rattle.std.specs.Prelude.{◌≡◌, ◌≤◌, length};
 ghost use Rattle.rules.specs.Names.{max_list};
 ghost use Rattle.record.specs.View.{as_record, as_list_record};
@@ -8,7 +10,7 @@ use record::{ListRecord, Record};
 use touching::{added, reads_b, reads_k};
 
 // What is touched: variable v is read, or written, where its place v says so.
-#[derive(Drop)]
+#[derive(Clone, Copy)]
 pub struct Touched {
     pub reads: [bool; 32],
     pub writes: [bool; 32],

@@ -1,4 +1,6 @@
 // Which variables one record reads by its b and its k, and a variable more among those that are touched.
+#![tactic(auto)]
+
 ghost use Rattle.std.specs.Prelude.{◌≡◌, ◌&&◌, [], ◌∷◌, eqb};
 ghost use Rattle.rules.specs.Words.{among};
 ghost use Rattle.rules.specs.Names.{IF, WHILE, AWAIT};

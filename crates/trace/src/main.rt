@@ -1,5 +1,7 @@
 // The trace: reads program.rec, start.rec and picks.rec in the folder that it runs in, and prints a line for the start and after each pick
 // taken, and the last line. `tracing` says what is printed and in which order; here it is only read and written.
+#![tactic(auto)]
+
 use tracing::Tracer;
 
 // Prints a trace piece by piece, until all is printed or nothing more can be written.

@@ -1,4 +1,6 @@
 // What the trace prints: the tracer, which says which text comes next.
+#![tactic(auto)]
+
 use run::State;
 use text::Text;
 
@@ -9,7 +11,7 @@ pub use opening::open;
 
 // What a tracer does next: it prints the start's line, takes the pick at a record of the picks, prints the last line with a number, or
 // nothing, since all is printed.
-#[derive(Drop)]
+#[derive(Clone, Copy)]
 pub enum Next {
     Start,
     Pick(usize),
@@ -18,7 +20,7 @@ pub enum Next {
 }
 
 // Where a trace stands: the state reached, the count of list records, and what comes next.
-#[derive(Drop)]
+#[derive(Clone, Copy)]
 pub struct Tracer {
     pub state: State,
     pub count: u16,
@@ -26,7 +28,7 @@ pub struct Tracer {
 }
 
 // A piece of the trace: what is printed, and where the trace stands after it.
-#[derive(Drop)]
+#[derive(Clone, Copy)]
 pub struct Printed {
     pub text: Text,
     pub tracer: Tracer,

@@ -1,4 +1,6 @@
 // The pick order, of what is known of the stations: which are ready, their priorities, and what the picked one's readiness tells.
+#![tactic(auto)]
+
 ghost use Rattle.std.specs.Prelude.{◌≡◌, false, ◌&&◌, ◌||◌, not, [], ◌∷◌, eqb, get_or};
 ghost use Rattle.std.specs.Int.Signed.{lt_z};
 ghost use Rattle.rules.specs.Words.{if◌then◌else◌, first, ◌refuses◌at◌, refusal};

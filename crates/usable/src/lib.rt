@@ -1,4 +1,6 @@
 // Whether the state in a kept place may be gone on from, over any list and any part of a buffer that begins at the place.
+#![tactic(auto)]
+
 ghost use Rattle.std.specs.Prelude.{◌≡◌};
 ghost use Rattle.usable.specs.Usable.{usable};
 

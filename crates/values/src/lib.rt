@@ -1,6 +1,8 @@
 // What a SET gives its variable, and whether a condition holds, of the numbers in a record: op, a, b and k. A function that reads the
 // variables borrows them, and one that changes them writes them where they are. A variable past the last reads 0, and a SET of one
 // changes nothing.
+#![tactic(auto)]
+
 ghost use Rattle.std.specs.Prelude.{◌≡◌, slice_index};
 ghost use Rattle.rules.specs.Values as rules;
 ghost use Rattle.rules.specs.Values.{plus, minus, set_value, compares};

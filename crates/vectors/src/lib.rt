@@ -1,5 +1,7 @@
 // Cases and their lines: a case is read from a stream, its call is made through the panel, and its answer is written as a line. The head of
 // independent/cases.c says how both are spelled.
+#![tactic(auto)]
+
 mod cases;
 mod fields;
 mod hash;

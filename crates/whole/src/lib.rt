@@ -1,5 +1,7 @@
 // Whether the parts of a state, taken together, are sound against a list, of any values. `soundness` has the clauses on positions,
 // priorities and counts.
+#![tactic(auto)]
+
 ghost use Rattle.std.specs.Prelude.{◌≡◌, []};
 ghost use Rattle.rules.specs.State.{sound_state};
 ghost use Rattle.laws.specs.Parts.{of_parts};

@@ -5,6 +5,8 @@
 // The files in data/ have four stations, B = 2 and resets 0, 1, 1 and 2: SET v1 := 7; SET v2 := 9; STATION; AWAIT v2 equals v1; SKIP; END;
 // STATION; SET v2 := 7; STATION; SKIP; STATION; SKIP. Station 2 is picked, and ends; then station 3 is asked for, and refused with TURN. In the
 // state that this pick found station 0 waits, 1 may be picked, 2 has ended and 3 is behind 1.
+#![tactic(auto)]
+
 ghost use Rattle.std.specs.Prelude.{◌≡◌};
 ghost use Rattle.rules.specs.Why.{why};
 ghost use Rattle.run.specs.View.{as_state};

@@ -1,4 +1,6 @@
 // The line that says why a station was not picked.
+#![tactic(auto)]
+
 ghost use Rattle.std.specs.Prelude.{◌≡◌, ◌++◌, ◌≤◌, length, take};
 ghost use Rattle.reason.specs.View.{as_why};
 ghost use Rattle.text.specs.View.{max_line, text_of};
