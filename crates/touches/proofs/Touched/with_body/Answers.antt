@@ -20,7 +20,7 @@ want-end-requires c = rw c.searched-count.ensures (omega arith, searched_most c.
 pub loop-place-init : goal.loop-place-init
 loop-place-init c =
     let a = c.args in
-    begins a.list.now a.t1 a.self
+    begins a.list.now a.self a.t1
     (λ q l. get_or-replicate max_list q false false (omega (arith, searched_most a.list.now))) refl
     (rw c.searched-count.ensures at c.want-end.ensures)
 
