@@ -130,6 +130,9 @@ data Part : Statement → Spot → Statements → Spot → Type 0 where
   body_part : {r : Record} {x : Statements} {o : Spot} → Part (an_await r x) o x (spot 1 (suc o.place) 0)
 
 in_part : {t x : Statements} {w o v z : Spot} {s u : Statement} → Stands t w u o → Part u o x v → Stands x v s z → Stands t w s z
+in_part (here skip_begins) k c = elim k [ ]
+in_part (here assign_begins) k c = elim k [ ]
+in_part (here branch_begins) k c = elim k [ ]
 in_part (here loop_begins) loop_part c = in_loop c
 in_part (here await_begins) body_part c = in_body c
 in_part (in_rest b d) k c = in_rest b (in_part d k c)

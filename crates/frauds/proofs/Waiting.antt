@@ -72,8 +72,8 @@ waiting_breaks bounds =
 idle_stays : (list : List ℕ) (before : Now) (cs : List Call) → calls_from idle list before cs ≡ before
 unfolding called calls_from stepped_on single_steps
 idle_stays list before [] = refl
-idle_stays list before (CHECK file ∷ cs) = idle_stays list before cs
-idle_stays list before (BUILD file buffer ∷ cs) = idle_stays list before cs
+idle_stays list before (CHECK _ ∷ cs) = idle_stays list before cs
+idle_stays list before (BUILD _ _ ∷ cs) = idle_stays list before cs
 idle_stays list before (START b resets ∷ cs) = idle_stays list before cs
 idle_stays list before (STEP p ∷ cs) = idle_stays list before cs
 idle_stays list before (RUN picks most ∷ cs) = idle_stays list before cs

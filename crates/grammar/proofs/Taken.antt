@@ -17,6 +17,9 @@ use Rattle.reading.proofs.Whole.{whole}
 use Rattle.grammar.specs.Grammar as G
 use Rattle.grammar.specs.Grammar.{statement, statements, stations, Shaped, Sequence}
 
+kinds_append : (x y : List Record) → kinds_of (x ++ y) ≡ kinds_of x ++ kinds_of y
+kinds_append = map-append (λ (r : Record). r.kind)
+
 -- a statement and then the rest, which may be nothing
 goes_on : {b : Bool} {x : List ℕ} (rest : Statements) → Shaped (statement b) x → (Some rest → Shaped (statements b) (kinds_of (flat rest)))
     → Shaped (statements b) (x ++ kinds_of (flat rest))
@@ -34,19 +37,19 @@ kinds_statements end s = absurd s
 kinds_statements (skips {rest = rest} p) s = goes_on rest G.skip (kinds_statements p)
 kinds_statements (assigns {r = r} {rest = rest} e p) s = rw e (goes_on rest G.set (kinds_statements p))
 kinds_statements (branches {r = r} {x = x} {y = y} {rest = rest} e s p t q u) i =
-    rw (e, map-append, map-append)
+    rw (e, kinds_append, kinds_append)
     (rw (append_assoc, append_assoc) at
     (goes_on rest (G.branch (kinds_statements p s) (kinds_statements q t)) (kinds_statements u)))
 kinds_statements (loops {r = r} {x = x} {rest = rest} e s p q) t =
-    rw (e, map-append) (rw append_assoc at (goes_on rest (G.loop (kinds_statements p s)) (kinds_statements q)))
+    rw (e, kinds_append) (rw append_assoc at (goes_on rest (G.loop (kinds_statements p s)) (kinds_statements q)))
 kinds_statements (awaits {r = r} {x = x} {rest = rest} e s p q) t =
-    rw (e, map-append) (rw append_assoc at (goes_on rest (G.await (kinds_statements p s)) (kinds_statements q)))
+    rw (e, kinds_append) (rw append_assoc at (goes_on rest (G.await (kinds_statements p s)) (kinds_statements q)))
 
 kinds_stations : (x : Statements) {xs : List Statements} → Some x → Proper false x → Stations xs
     → Shaped stations (STATION ∷ kinds_of (flat x ++ flat_stations xs))
 unfolding flat_stations
 kinds_stations x s p no_stations = rw append-nil (G.last (G.begun (kinds_statements p s)))
-kinds_stations x s p (a_station {x = y} t q rest) = rw map-append (G.next (G.begun (kinds_statements p s)) (kinds_stations y t q rest))
+kinds_stations x s p (a_station {x = y} t q rest) = rw kinds_append (G.next (G.begun (kinds_statements p s)) (kinds_stations y t q rest))
 
 kinds_sequence : {rs : List Record} {xs : List Statements} → Sets rs → Stations xs → 1 ≤ length xs → Sequence (kinds_of (flat_file rs xs))
 unfolding flat_stations

@@ -123,6 +123,12 @@ pub one_end : {S : Program} {σ τ υ : List ℕ} → ⟨ S ∣ σ ⟩⟶*⟨ E 
 one_end {υ = υ} d c = ends_all d E υ c refl refl
 
 held : {S T : Program} {σ τ : List ℕ} → Does S σ T τ → Disabled S σ → ⊥
+held (does skips e) f = elim f [ ]
+held (does assigns e) f = elim f [ ]
+held (does (goes_in d) e) f = elim f [ ]
+held (does (goes_else d) e) f = elim f [ ]
+held (does (goes_round d) e) f = elim f [ ]
+held (does (leaves d) e) f = elim f [ ]
 held (does (passes d e) f) (waiting g) = never e g
 
 pub moving_enabled : {S T : Program} {σ τ : List ℕ} → ⟨ S ∣ σ ⟩⟶⟨ T ∣ τ ⟩ → Enabled S σ
