@@ -37,24 +37,31 @@ overflow_cast-field c = let h = few _ (length_passed (goal.at.overflow_cast-fiel
 
 pub returns-then-field-count : goal.returns-then-field-count
 returns-then-field-count c =
+    let way = goal.at.returns-then-field-count c in
     c.new-then-field-count.ensures
-    ∙ sym (field_refuses _ (length_passed (goal.at.returns-then-field-count c).Else-wrong_length) _ c.field_place-field.ensures c.if-field-count.true)
+    ∙ sym (field_refuses _ (length_passed way.Else-wrong_length) _ c.field_place-field.ensures c.if-field-count.true)
 
 pub returns-then-wrong_count : goal.returns-then-wrong_count
 returns-then-wrong_count c =
+    let way = goal.at.returns-then-wrong_count c in
     let wrong = sym c.wrong_count.ensures ∙ c.if-wrong_count.true in
-    c.new-then-wrong_count.ensures ∙ sym (count_refuses _ (length_passed (goal.at.returns-then-wrong_count c).Else-wrong_length) (fields_passed (goal.at.returns-then-wrong_count c).Else-field-count) wrong)
+    c.new-then-wrong_count.ensures
+    ∙ sym (count_refuses _ (length_passed way.Else-wrong_length) (fields_passed way.Else-field-count) wrong)
 
 pub overflow_cast-place : goal.overflow_cast-place
 overflow_cast-place c =
-    let h = few _ (length_passed (goal.at.overflow_cast-place c).Else-wrong_length) in
-    let l = shape_within _ _ (found (goal.at.overflow_cast-place c).After-of _ c.in-Broken.is) in
+    let way = goal.at.overflow_cast-place c in
+    let h = few _ (length_passed way.Else-wrong_length) in
+    let l = shape_within _ _ (found way.After-of _ c.in-Broken.is) in
     omega arith
 
 pub returns-in-Broken : goal.returns-in-Broken
 returns-in-Broken c =
-    let broken = found (goal.at.returns-in-Broken c).After-of _ c.in-Broken.is in
-    c.new-in-Broken.ensures ∙ sym (shape_refuses _ (length_passed (goal.at.returns-in-Broken c).Else-wrong_length) (fields_passed (goal.at.returns-in-Broken c).Else-field-count) (count_passed (goal.at.returns-in-Broken c).Else-wrong_count) _ broken)
+    let way = goal.at.returns-in-Broken c in
+    let broken = found way.After-of _ c.in-Broken.is in
+    c.new-in-Broken.ensures
+    ∙ sym (shape_refuses _ (length_passed way.Else-wrong_length) (fields_passed way.Else-field-count)
+    (count_passed way.Else-wrong_count) _ broken)
 
 pub overflow_cast-deep : goal.overflow_cast-deep
 overflow_cast-deep c =
@@ -63,11 +70,16 @@ overflow_cast-deep c =
 
 pub returns-then-deep-count : goal.returns-then-deep-count
 returns-then-deep-count c =
+    let way = goal.at.returns-then-deep-count c in
     c.new-then-deep-count.ensures
-    ∙ sym (depth_refuses _ (length_passed (goal.at.returns-then-deep-count c).Else-wrong_length) (fields_passed (goal.at.returns-then-deep-count c).Else-field-count) (count_passed (goal.at.returns-then-deep-count c).Else-wrong_count) (found (goal.at.returns-then-deep-count c).After-of Whole c.in_default.is)
+    ∙ sym (depth_refuses _ (length_passed way.Else-wrong_length) (fields_passed way.Else-field-count)
+    (count_passed way.Else-wrong_count) (found way.After-of Whole c.in_default.is)
     _ c.depth_place-deep.ensures c.if-deep-count.true)
 
 pub returns : goal.returns
 returns c =
+    let way = goal.at.returns c in
     let right = rw c.depth_place-deep.ensures at c.if-deep-count.false in
-    c.new-2.ensures ∙ sym (accepts _ (length_passed (goal.at.returns c).Else-wrong_length) (fields_passed (goal.at.returns c).Else-field-count) (count_passed (goal.at.returns c).Else-wrong_count) (found (goal.at.returns c).After-of Whole c.in_default.is) right)
+    c.new-2.ensures
+    ∙ sym (accepts _ (length_passed way.Else-wrong_length) (fields_passed way.Else-field-count)
+    (count_passed way.Else-wrong_count) (found way.After-of Whole c.in_default.is) right)

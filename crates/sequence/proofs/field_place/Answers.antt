@@ -21,7 +21,8 @@ tested c = c.fields_right.ensures ∙ ap fields_right c.at.ensures
 pub returns-then-not-fields_right : goal.returns-then-not-fields_right
 unfolding field_place
 returns-then-not-fields_right c =
-    sym (first_is _ _ _ c.loop-at-test.true (ap not (sym (tested (goal.at.returns-then-not-fields_right c).After-fields_right) ∙ c.if-not-fields_right.true))
+    sym (first_is _ _ _ c.loop-at-test.true
+    (ap not (sym (tested (goal.at.returns-then-not-fields_right c).After-fields_right) ∙ c.if-not-fields_right.true))
     c.loop-at.invariant.1)
 
 pub loop-at-preserved : goal.loop-at-preserved
