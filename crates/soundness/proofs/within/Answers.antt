@@ -7,11 +7,9 @@ use mir.Val.{SFits, to_z, of_z}
 use mir.ValLaws.{to_z-of_z, to_z_pos}
 use lib.Dec.{ltb}
 use lib.IntN.{ℤ, pos, negsuc, ◌+ℤ◌}
-use borrow.Author.Rules.{rules}
 use borrow.Author.Tests.{ltb-true, ltb-false}
 use Rattle.laws.proofs.Choice.{by_test}
-use Rattle.soundness.proofs.within.Statement.{statement}
-use Rattle.soundness.proofs.within.Tie as tie
+use Rattle.soundness.proofs.within.Goals as goal
 
 wider : (z : ℤ) → SFits w16 z → SFits w32 z
 wider z fits = record { sfits = omega arith }
@@ -27,21 +25,15 @@ sum_fits (negsuc a) c fits small =
 taken : (z : ℤ) (c : ℕ) → SFits w16 z → c < 65536 → to_z w32 (of_z w32 (to_z w16 (of_z w16 z))) +ℤ to_z w32 c ≡ z +ℤ pos c
 taken z c fits small = rw (to_z-of_z w16 z fits, to_z-of_z w32 z (wider z fits), to_z_pos w32 c (omega arith))
 
-cast-result : tie.Need-overflow-cast-result
-cast-result c = rw (to_z-of_z w16 c.args.priority c.ranges.priority) (wider _ c.ranges.priority)
+pub overflow_cast-result : goal.overflow_cast-result
+overflow_cast-result c = rw (to_z-of_z w16 c.args.priority c.ranges.priority) (wider _ c.ranges.priority)
 
-cast-result-2 : tie.Need-overflow-cast-result-2
-cast-result-2 c = search rules
-
-add-result : tie.Need-overflow-add-result
-add-result c =
+pub overflow_add-result : goal.overflow_add-result
+overflow_add-result c =
     let a = c.args in
     rw (taken a.priority a.count c.ranges.priority (omega arith)) (sum_fits a.priority a.count c.ranges.priority (omega arith))
 
-cast-result-3 : tie.Need-overflow-cast-result-3
-cast-result-3 c = search rules
-
-returns : tie.Need-returns
+pub returns : goal.returns
 returns c =
     let a = c.args in
     rw (
@@ -49,6 +41,3 @@ returns c =
       to_z-of_z w32 (a.priority +ℤ pos a.count) (sum_fits a.priority a.count c.ranges.priority (omega arith)),
       to_z_pos w32 a.b (omega arith),
     )
-
-pub within-spec : {M : Type 1} → statement M
-within-spec = tie.close (tie.spec cast-result cast-result-2 add-result cast-result-3 returns)
