@@ -3,11 +3,9 @@ use mathlib.Core.Path.{◌≡◌}
 use mathlib.Core.Bool.{◌&&◌, ◌||◌, not}
 use Prim.Native.Nat.{ℕ}
 use lib.Dec.{leb, ltb}
-use borrow.Author.Rules.{rules}
 use borrow.Author.Tests.{leb-true, leb-false, lt-ltb, le-ltb}
 use Rattle.laws.proofs.Choice.{by_test}
-use Rattle.sequence.proofs.wrong_count.Statement.{statement}
-use Rattle.sequence.proofs.wrong_count.Tie as tie
+use Rattle.sequence.proofs.wrong_count.Goals as goal
 
 outside : (least most n : ℕ) → (ltb n least || ltb most n) ≡ not (leb least n && leb n most)
 outside least most n =
@@ -16,11 +14,5 @@ outside least most n =
     (λ b. rw (a, b, le-ltb n least (leb-true _ _ a), lt-ltb most n (leb-false _ _ b))))
     (λ a. rw (a, lt-ltb n least (leb-false _ _ a)))
 
-station-count-requires : tie.Need-station-count-requires
-station-count-requires c κs = search rules
-
-returns : tie.Need-returns
-returns c = rw (← c.station_count.ensures) (outside 1 8 c.station_count.result)
-
-pub wrong-count-spec : {M : Type 1} → statement M
-wrong-count-spec = tie.close (tie.spec station-count-requires returns)
+pub returns : goal.returns
+returns c = rw (← c.station_count-stations.ensures) (outside 1 8 c.station_count-stations.result)
