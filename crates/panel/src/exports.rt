@@ -17,16 +17,14 @@ use run::{Outcome, Ran, State};
 use sequence::Checked;
 
 // Checks a written sequence: 0 and place 0, or the first refusal and its place.
-#[unsafe(no_mangle)]
-pub extern "C" fn press_check(file: &[u8]) -> Checked
+pub fn press_check(file: &[u8]) -> Checked
     ensures { CheckPromise file.now result }
 {
     sequence::check(file)
 }
 
 // Builds the list of a written sequence into the lent buffer, whose bytes past the list stay. A refusal leaves the buffer as it was.
-#[unsafe(no_mangle)]
-pub extern "C" fn press_build(file: &[u8], list: &mut [u8]) -> Built
+pub fn press_build(file: &[u8], list: &mut [u8]) -> Built
     ensures { BuildPromise file.now list.old result list.new }
 {
     build::build(file, list)
@@ -34,14 +32,7 @@ pub extern "C" fn press_build(file: &[u8], list: &mut [u8]) -> Built
 
 // The start of a run, with its start records in the log. A refusal answers a state of zeros and leaves the log as it was. Of the kept states
 // only the room is looked at.
-#[unsafe(no_mangle)]
-pub extern "C" fn press_start(
-    list: &[u8],
-    b: u8,
-    resets: &[u8],
-    log: &mut [u8],
-    kept: &[u8],
-) -> Outcome
+pub fn press_start(list: &[u8], b: u8, resets: &[u8], log: &mut [u8], kept: &[u8]) -> Outcome
     ensures { StartPromise list.now b resets.now (record { log = log.entry.now; kept = kept.now }) result (record { log = log.exit.now; kept = kept.now }) }
 {
     run::start(list, b, resets, log, kept)
@@ -49,8 +40,7 @@ pub extern "C" fn press_start(
 
 // One step of a state handed over: the state after it, its record in the log, and at a multiple of 64 the state in its kept place. A refusal
 // answers the state given and leaves both buffers as they were.
-#[unsafe(no_mangle)]
-pub extern "C" fn press_step(
+pub fn press_step(
     state: State,
     list: &[u8],
     log: &mut [u8],
@@ -65,8 +55,7 @@ pub extern "C" fn press_step(
 
 // One step of a state lent: the state after it in the same place, its record in the log, and at a multiple of 64 the state in its kept place. A
 // refusal leaves all three as they were.
-#[unsafe(no_mangle)]
-pub extern "C" fn press_advance(
+pub fn press_advance(
     state: &mut State,
     list: &[u8],
     log: &mut [u8],
@@ -81,8 +70,7 @@ pub extern "C" fn press_advance(
 
 // The steps of the picks, until one is refused, the picks end or the most-steps number is reached, with their records in the log and the states
 // that they keep. A refused step writes nothing, and those before it stand.
-#[unsafe(no_mangle)]
-pub extern "C" fn press_run(
+pub fn press_run(
     state: State,
     list: &[u8],
     log: &mut [u8],
@@ -96,24 +84,21 @@ pub extern "C" fn press_run(
 }
 
 // The state before the last step, by the log and the kept states, which stay. A refusal answers the state given.
-#[unsafe(no_mangle)]
-pub extern "C" fn press_undo(state: State, list: &[u8], log: &[u8], kept: &[u8]) -> Outcome
+pub fn press_undo(state: State, list: &[u8], log: &[u8], kept: &[u8]) -> Outcome
     ensures { UndoPromise list.now (as_state state) (record { log = log.entry.now; kept = kept.now }) result }
 {
     state.undo(list, log, kept)
 }
 
 // Whether a station is ready, has ended or is waiting, as the number that stands for it, and where it waits. Refused, the number and place 0.
-#[unsafe(no_mangle)]
-pub extern "C" fn press_readiness(state: State, list: &[u8], station: u8) -> Told
+pub fn press_readiness(state: State, list: &[u8], station: u8) -> Told
     ensures { ReadinessPromise list.now (as_state state) station result }
 {
     asking::readiness(state, list, station)
 }
 
 // Why a station was not picked: one reason, as the number that stands for it and what goes with it. Refused, all zeros but the number.
-#[unsafe(no_mangle)]
-pub extern "C" fn press_why(state: State, list: &[u8], station: u8) -> Why
+pub fn press_why(state: State, list: &[u8], station: u8) -> Why
     ensures { WhyPromise list.now (as_state state) station result }
 {
     explaining::why(state, list, station)
@@ -121,8 +106,7 @@ pub extern "C" fn press_why(state: State, list: &[u8], station: u8) -> Why
 
 // Which stations are ready, in turn, waiting and ended, and which read and write each variable in their next steps. Refused, all zeros but
 // the number.
-#[unsafe(no_mangle)]
-pub extern "C" fn press_lights(state: State, list: &[u8]) -> Lights
+pub fn press_lights(state: State, list: &[u8]) -> Lights
     ensures { LightsPromise list.now (as_state state) result }
 {
     lights::lights(state, list)
