@@ -1,5 +1,4 @@
-// The calls for C, each under a plain name of its own: panel/press.h declares them. What crosses is numbers, slices as a pointer and a
-// length, structs by value, and the state lent as a pointer.
+// The calls, each under a plain name of its own, by which C calls it too: `panel_c` hands each on to C, and panel/press.h declares it there.
 ghost use Rattle.sequence.specs.Promises.{CheckPromise};
 ghost use Rattle.build.specs.Promises.{BuildPromise};
 ghost use Rattle.run.specs.View.{as_state};
@@ -33,7 +32,7 @@ pub fn press_build(file: &[u8], list: &mut [u8]) -> Built
 // The start of a run, with its start records in the log. A refusal answers a state of zeros and leaves the log as it was. Of the kept states
 // only the room is looked at.
 pub fn press_start(list: &[u8], b: u8, resets: &[u8], log: &mut [u8], kept: &[u8]) -> Outcome
-    ensures { StartPromise list.now b resets.now (record { log = log.entry.now; kept = kept.now }) result (record { log = log.exit.now; kept = kept.now }) }
+    ensures { StartPromise list.now b resets.now (record { log = log.old; kept = kept.now }) result (record { log = log.new; kept = kept.now }) }
 {
     run::start(list, b, resets, log, kept)
 }
@@ -48,7 +47,7 @@ pub fn press_step(
     station: u8,
     reset: u8,
 ) -> Outcome
-    ensures { StepPromise list.now (as_state state) (record { log = log.entry.now; kept = kept.old }) (record { station = station; reset = reset }) result (record { log = log.exit.now; kept = kept.new }) }
+    ensures { StepPromise list.now (as_state state) (record { log = log.old; kept = kept.old }) (record { station = station; reset = reset }) result (record { log = log.new; kept = kept.new }) }
 {
     state.step(list, log, kept, station, reset)
 }
@@ -63,7 +62,7 @@ pub fn press_advance(
     station: u8,
     reset: u8,
 ) -> u8
-    ensures { AdvancePromise list.now (as_state state.old) (record { log = log.entry.now; kept = kept.old }) (record { station = station; reset = reset }) result state.new (record { log = log.exit.now; kept = kept.new }) }
+    ensures { AdvancePromise list.now (as_state state.old) (record { log = log.old; kept = kept.old }) (record { station = station; reset = reset }) result state.new (record { log = log.new; kept = kept.new }) }
 {
     lent::advance(state, list, log, kept, station, reset)
 }
@@ -78,14 +77,14 @@ pub fn press_run(
     picks: &[u8],
     most: usize,
 ) -> Ran
-    ensures { RunPromise list.now (as_state state) (record { log = log.entry.now; kept = kept.old }) picks.now most result (record { log = log.exit.now; kept = kept.new }) }
+    ensures { RunPromise list.now (as_state state) (record { log = log.old; kept = kept.old }) picks.now most result (record { log = log.new; kept = kept.new }) }
 {
     state.run(list, log, kept, picks, most)
 }
 
 // The state before the last step, by the log and the kept states, which stay. A refusal answers the state given.
 pub fn press_undo(state: State, list: &[u8], log: &[u8], kept: &[u8]) -> Outcome
-    ensures { UndoPromise list.now (as_state state) (record { log = log.entry.now; kept = kept.now }) result }
+    ensures { UndoPromise list.now (as_state state) (record { log = log.now; kept = kept.now }) result }
 {
     state.undo(list, log, kept)
 }
