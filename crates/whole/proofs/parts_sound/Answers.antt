@@ -1,8 +1,7 @@
 -- `whole::parts_sound` meets its contract: a test that fails decides at once.
 -- Assumes nothing.
 use mathlib.Core.Path.{sym, ◌∙◌}
-use borrow.Author.Rules.{rules}
-use borrow.Author.Tests.{le-leb, lt-leb, eq-eqb, ne_eqb, not-true, not-false}
+use borrow.Author.Tests.{le-leb, lt-leb, eq-eqb, ne_eqb}
 use Rattle.rules.specs.State.{sound_state}
 use Rattle.whole.proofs.Clauses.{sound_given}
 use Rattle.whole.proofs.parts_sound.Goals as goal
@@ -22,7 +21,7 @@ returns-then-not-placed c =
       sound_given _ _ c.stations-count.ensures c.later.ensures,
       eq-eqb _ _ c.if-n-count.false,
       le-leb _ _ c.if-m-gt-MAX_STEPS.false,
-      sym c.placed.ensures ∙ not-true _ c.if-not-placed.true-raw,
+      sym c.placed.ensures ∙ c.if-not-placed.true,
     )
 
 pub returns : goal.returns
@@ -31,7 +30,7 @@ returns c =
       sound_given _ _ c.stations-count.ensures c.later.ensures,
       eq-eqb _ _ c.if-n-count.false,
       le-leb _ _ c.if-m-gt-MAX_STEPS.false,
-      sym c.placed.ensures ∙ not-false _ c.if-not-placed.false-raw,
+      sym c.placed.ensures ∙ c.if-not-placed.false,
       c.bounded.ensures,
       c.few_low.ensures,
       c.empty.ensures,
