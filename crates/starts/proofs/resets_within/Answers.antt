@@ -1,5 +1,4 @@
--- `starts::resets_within` meets its contract. The loop's invariant: each reset passed is at most b. The measure is what is left of them.
--- Assumes nothing.
+-- `starts::resets_within` meets its contract, by the loop's invariant. Assumes nothing.
 use mathlib.Core.Path.{sym}
 use native.Mathlib.Omega.{arith}
 use borrow.Author.Rules.{rules}

@@ -1,5 +1,4 @@
--- `starts::resets_within` meets its contract. The loop's invariant: each reset passed is at most b. The measure is what is left of them.
--- Assumes nothing.
+-- The loop of `starts::resets_within`. Its invariant: each reset passed is at most b. Its measure is what is left of them.
 use Prim.Native.Nat.{ℕ, ◌-◌, ◌≤◌, ◌<◌}
 use mathlib.Core.Path.{◌≡◌}
 use mathlib.Core.Bool.{true}

@@ -1,9 +1,8 @@
--- `starts::right` meets its contract. The loop's invariant: each start record passed is right. The measure is what is left of the
--- stations.
--- Assumes nothing.
-use Prim.Native.Nat.{◌*◌}
+-- `starts::right` meets its contract, by the loop's invariant. Assumes nothing.
+use Prim.Native.Nat.{◌*◌, ℕ}
 use mathlib.Core.Path.{◌≡◌, sym}
-use mathlib.Core.Bool.{false, ◌&&◌}
+use mathlib.Core.Bool.{Bool, false, ◌&&◌}
+use mathlib.Core.List.{List}
 use native.Mathlib.Omega.{arith}
 use lib.Dec.{eqb, leb}
 use lib.ListN.{length}
@@ -14,9 +13,12 @@ use Rattle.rules.specs.Words.{each}
 use Rattle.rules.specs.Records.{pick_at}
 use Rattle.laws.proofs.Choice.{both, not_both_left, not_both_right}
 use Rattle.laws.proofs.Places.{each_all, each_not}
-use Rattle.starts.proofs.right.Invariants.{start_right}
 use Rattle.starts.proofs.right.Goals as goal
 use Rattle.starts.proofs.right.Goals.{In-loop-j}
+
+-- the test of one start record
+abbrev start_right : List ℕ → ℕ → ℕ → Bool
+start_right log b k = eqb (pick_at log k).station k && leb (pick_at log k).reset b
 
 pub returns-then-log-n : goal.returns-then-log-n
 returns-then-log-n c =
@@ -26,13 +28,10 @@ returns-then-log-n c =
 pub loop-j-init : goal.loop-j-init
 loop-j-init c = (search rules, below_none _)
 
-pub overflow_cast-log : goal.overflow_cast-log
-overflow_cast-log c = omega (arith, c.shared_slice_known-1.given (2 * c.loop-j.j))
-
 -- a record that is wrong
-wrong : (c : In-loop-j) →
-    start_right c.args.log.now c.args.b c.loop-j.j ≡ false
-    → false ≡ (leb (2 * c.args.n) (length c.args.log.now) && each (start_right c.args.log.now c.args.b) c.args.n)
+wrong : (c : In-loop-j) → let a = c.args in
+    start_right a.log.now a.b c.loop-j.j ≡ false
+    → false ≡ (leb (2 * a.n) (length a.log.now) && each (start_right a.log.now a.b) a.n)
 wrong c is =
     let a = c.args in
     sym (not_both_right (leb (2 * a.n) (length a.log.now)) _

@@ -1,6 +1,4 @@
--- `starts::write` meets its contract. The loop's invariant: the start records of the stations passed are written. The measure is what is
--- left of the resets.
--- Assumes nothing.
+-- `starts::write` meets its contract, by the loop's invariant and by what one turn writes. Assumes nothing.
 use Prim.Native.Nat.{◌*◌}
 use mathlib.Core.Path.{◌≡◌, refl}
 use mathlib.Core.Bool.{true}
@@ -21,13 +19,17 @@ use Rattle.starts.proofs.write.Goals as goal
 pub returns-then-resets-gt-MAX_STATIONS : goal.returns-then-resets-gt-MAX_STATIONS
 returns-then-resets-gt-MAX_STATIONS c =
     let a = c.args in
-    let none = not_both_left _ (leb (2 * length a.resets.now) (length a.log.now)) (lt-leb (length a.resets.now) max_stations c.if-resets-gt-MAX_STATIONS.true) in
+    let none =
+    not_both_left _ (leb (2 * length a.resets.now) (length a.log.now))
+    (lt-leb (length a.resets.now) max_stations c.if-resets-gt-MAX_STATIONS.true) in
     rw none (refl, refl)
 
 pub returns-then-log-resets : goal.returns-then-log-resets
 returns-then-log-resets c =
     let a = c.args in
-    let none = not_both_right (leb (length a.resets.now) max_stations) _ (lt-leb (2 * length a.resets.now) (length a.log.now) c.if-log-resets.true) in
+    let none =
+    not_both_right (leb (length a.resets.now) max_stations) _
+    (lt-leb (2 * length a.resets.now) (length a.log.now) c.if-log-resets.true) in
     rw none (refl, refl)
 
 pub loop-j-init : goal.loop-j-init

@@ -1,6 +1,5 @@
--- `starts::write` meets its contract. The loop's invariant: the start records of the stations passed are written. The measure is what is
--- left of the resets.
--- Assumes nothing.
+-- The loop of `starts::write`. Its invariant: the start records of the stations passed are written. Its measure is what is left of the
+-- resets.
 use Prim.Native.Nat.{◌-◌, ◌≤◌}
 use mathlib.Core.Path.{◌≡◌}
 use lib.ListN.{length, take}

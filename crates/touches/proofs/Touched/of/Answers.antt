@@ -3,7 +3,6 @@
 use mathlib.Core.Path.{◌≡◌, ◌∙◌}
 use mathlib.Core.Logic.{⊎_elim}
 use mathlib.Core.Bool.{false, ◌&&◌, and-false}
-use borrow.Author.Rules.{rules}
 use borrow.Author.Tests.{eq-eqb, ne_eqb}
 use lib.Dec.{eqb}
 use Rattle.rules.specs.Names.{AWAIT}
@@ -11,7 +10,6 @@ use Rattle.laws.proofs.Choice.{both}
 use Rattle.record.specs.View.{as_list_record}
 use Rattle.touches.proofs.Variables.{touched_itself, touched_await}
 use Rattle.touches.proofs.Touched.of.Goals as goal
-use Rattle.touches.proofs.Touched.of.Goals.{else-own-eq-AWAIT-via-then-own-eq-AWAIT+else-ready, else-own-eq-AWAIT-via-else-own-eq-AWAIT}
 
 pub returns-then-ready : goal.returns-then-ready
 returns-then-ready c =
@@ -24,8 +22,5 @@ pub returns : goal.returns
 returns c =
     let a = c.args in
     let shut : (eqb a.e.own.kind AWAIT && a.ready) ≡ false =
-    elim c.else-own-eq-AWAIT.branch [
-      else-own-eq-AWAIT-via-then-own-eq-AWAIT+else-ready w ↦ rw (w.if-ready.false, and-false)
-      | else-own-eq-AWAIT-via-else-own-eq-AWAIT w ↦ rw (ne_eqb _ AWAIT w.if-own-eq-AWAIT.false)
-    ] in
+    ⊎_elim (λ w. rw (w.1, and-false)) (λ no. rw (ne_eqb _ AWAIT no)) c.else-own-eq-AWAIT.either in
     c.with_record-itself.ensures ∙ touched_itself a.list.now (as_list_record a.e) a.ready shut

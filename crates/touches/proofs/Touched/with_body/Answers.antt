@@ -1,16 +1,10 @@
--- `touches::Touched::with_body` meets its contract. The loop's invariant: what is touched so far, with what the records from here on
--- add, is what the whole body adds; no place is wanted from the end on. The measure is what is left of the records searched.
--- Assumes nothing.
-use borrow.Author.Rules.{rules}
+-- `touches::Touched::with_body` meets its contract, by the loop's invariant and by what each turn does to it. Assumes nothing.
 use native.Mathlib.Omega.{arith}
 use mathlib.Core.Path.{refl, ◌∙◌}
 use mathlib.Core.Bool.{false}
 use lib.ListN.{get_or-replicate}
-use mathlib.Core.Logic.{⊎_elim}
-use Prim.Native.Nat.{◌-◌}
 use Rattle.rules.specs.Names.{max_list}
-use Rattle.touches.specs.Touched.{searched}
-use Rattle.touches.proofs.Walk.{Walk, searched_most, begins, ends, passes, takes}
+use Rattle.touches.proofs.Walk.{searched_most, begins, ends, passes, takes}
 use Rattle.touches.proofs.Touched.with_body.Goals as goal
 use Rattle.touches.proofs.Touched.with_body.Goals.{then-wanted-place, else-wanted-place}
 
@@ -43,14 +37,13 @@ want-end-requires-then-wanted-place-2 c =
 
 pub loop-place-preserved : goal.loop-place-preserved
 loop-place-preserved c =
-    let inside = c.loop-place-test.true in
     elim c.if-wanted-place.branch [
-      then-wanted-place w ↦
+      | then-wanted-place w ↦
           rw (w.self-is, w.wanted-is, w.end-is)
-          (takes _ _ _ c.loop-place.invariant inside w.if-wanted-place.true c.searched-count.ensures w.at-e.ensures
+          (takes _ _ _ c.loop-place.invariant c.loop-place-test.true w.if-wanted-place.true c.searched-count.ensures w.at-e.ensures
           w.with_record-self.ensures w.want-end-then-wanted-place.ensures w.want-end-then-wanted-place-2.ensures)
       | else-wanted-place w ↦
-          rw (w.self-is, w.wanted-is, w.end-is) (passes _ _ _ c.loop-place.invariant inside w.if-wanted-place.false)
+          rw (w.self-is, w.wanted-is, w.end-is) (passes _ _ _ c.loop-place.invariant c.loop-place-test.true w.if-wanted-place.false)
     ]
 
 pub returns : goal.returns

@@ -1,6 +1,5 @@
 -- `touches::Touched::with_record` meets its contract: what its b and its k name is read, and what a SET's a names is written.
 -- Assumes nothing.
-use borrow.Author.Rules.{rules}
 use Rattle.record.specs.View.{as_record}
 use Rattle.touches.proofs.Variables.{with_record_by}
 use Rattle.touches.proofs.Touched.with_record.Goals as goal
