@@ -17,7 +17,7 @@ pub fn advance(
     station: u8,
     reset: u8,
 ) -> u8
-    ensures { AdvancePromise list.now (as_state state.old) (record { log = log.entry.now; kept = kept.old }) (record { station = station; reset = reset }) result state.new (record { log = log.exit.now; kept = kept.new }) }
+    ensures { AdvancePromise list.now (as_state state.old) (record { log = log.old; kept = kept.old }) (record { station = station; reset = reset }) result state.new (record { log = log.new; kept = kept.new }) }
 {
     let taken = state.step(list, log, kept, station, reset);
     if taken.number == 0 {

@@ -33,7 +33,7 @@ pub fn taken(
     station: u8,
     reset: u8,
 ) -> Outcome
-    ensures { as_stepped result (record { log = log.exit.now; kept = kept.new }) ≡ taken_pick list.now (as_state state) (record { log = log.entry.now; kept = kept.old }) (record { station = station; reset = reset }) }
+    ensures { as_stepped result (record { log = log.new; kept = kept.new }) ≡ taken_pick list.now (as_state state) (record { log = log.old; kept = kept.old }) (record { station = station; reset = reset }) }
 {
     if station == UNDO {
         if reset == 0 {

@@ -21,7 +21,7 @@ pub struct Reached {
 // Takes the pieces of a trace one after another until all is printed, and answers what it comes to. The picks taken write to the log and to the
 // kept states as in the trace. Where all is printed already, the text is empty.
 pub fn reach(first: Tracer, list: &[u8], log: &mut [u8], kept: &mut [u8], picks: &[u8]) -> Reached
-    ensures { as_reached result (record { log = log.exit.now; kept = kept.new }) ≡ reached list.now picks.now (record { log = log.entry.now; kept = kept.old }) (as_tracing first) }
+    ensures { as_reached result (record { log = log.new; kept = kept.new }) ≡ reached list.now picks.now (record { log = log.old; kept = kept.old }) (as_tracing first) }
 {
     let mut tracer = first;
     let mut text = Text::empty();

@@ -29,7 +29,7 @@ impl State {
 // The start of a run, with a reset for each station and b the largest reset from then on. It writes a start record for each station to the
 // log, and nothing of the kept states; a refusal answers a state of zeros and writes nothing.
 pub fn start(list: &[u8], b: u8, resets: &[u8], log: &mut [u8], kept: &[u8]) -> Outcome
-    ensures { StartPromise list.now b resets.now (record { log = log.entry.now; kept = kept.now }) result (record { log = log.exit.now; kept = kept.now }) }
+    ensures { StartPromise list.now b resets.now (record { log = log.old; kept = kept.now }) result (record { log = log.new; kept = kept.now }) }
 {
     if !list::sound(list) {
         return refused(Record::LIST);

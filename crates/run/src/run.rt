@@ -22,7 +22,7 @@ impl State {
     // The steps of the picks, two bytes each, until one is refused, the picks end or the most-steps number is reached. The list and the
     // state are tested once.
     pub fn run(self, list: &[u8], log: &mut [u8], kept: &mut [u8], picks: &[u8], most: usize) -> Ran
-        ensures { RunPromise list.now (as_state self) (record { log = log.entry.now; kept = kept.old }) picks.now most result (record { log = log.exit.now; kept = kept.new }) }
+        ensures { RunPromise list.now (as_state self) (record { log = log.old; kept = kept.old }) picks.now most result (record { log = log.new; kept = kept.new }) }
     {
         if picks.len() % 2 == 1 {
             return Ran {
@@ -58,7 +58,7 @@ impl State {
         count: usize,
     ) -> Ran
         requires { Known list.now (as_state self) × (2 * count ≤ length picks.now) }
-        ensures { as_ran result (record { log = log.exit.now; kept = kept.new }) ≡ steps_from list.now picks.now 0 count (as_state self) (record { log = log.entry.now; kept = kept.old }) }
+        ensures { as_ran result (record { log = log.new; kept = kept.new }) ≡ steps_from list.now picks.now 0 count (as_state self) (record { log = log.old; kept = kept.old }) }
     {
         let mut positions = self.positions;
         let mut priorities = self.priorities;

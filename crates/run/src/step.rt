@@ -16,7 +16,7 @@ impl State {
         station: u8,
         reset: u8,
     ) -> Outcome
-        ensures { StepPromise list.now (as_state self) (record { log = log.entry.now; kept = kept.old }) (record { station = station; reset = reset }) result (record { log = log.exit.now; kept = kept.new }) }
+        ensures { StepPromise list.now (as_state self) (record { log = log.old; kept = kept.old }) (record { station = station; reset = reset }) result (record { log = log.new; kept = kept.new }) }
     {
         if !list::sound(list) {
             return Outcome {

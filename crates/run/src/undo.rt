@@ -15,7 +15,7 @@ use record::Record;
 impl State {
     // The state before the last step, made anew from the log and the kept states. Both stay.
     pub fn undo(self, list: &[u8], log: &[u8], kept: &[u8]) -> Outcome
-        ensures { UndoPromise list.now (as_state self) (record { log = log.entry.now; kept = kept.now }) result }
+        ensures { UndoPromise list.now (as_state self) (record { log = log.now; kept = kept.now }) result }
     {
         let number = self.undo_refusal(list, log, kept);
         if number != 0 {
@@ -63,7 +63,7 @@ impl State {
 
     // What refuses an undo, of its tests in their order but the last, the replay. 0 where nothing does.
     fn undo_refusal(self, list: &[u8], log: &[u8], kept: &[u8]) -> u8
-        ensures { result ≡ refusal (before_replay list.now (as_state self) (record { log = log.entry.now; kept = kept.now })) }
+        ensures { result ≡ refusal (before_replay list.now (as_state self) (record { log = log.now; kept = kept.now })) }
     {
         if !list::sound(list) {
             return Record::LIST;
@@ -117,7 +117,7 @@ fn right(list: &[u8], kept: &[u8], b: u8, place: u16) -> bool
 // The state that a replay begins with: that in a kept place that the buffer has, or for 0 that of the start records.
 fn nearest(list: &[u8], b: u8, log: &[u8], kept: &[u8], place: u16) -> State
     requires { (sound_list list.now ≡ true) × (kept_offset place + kept_length ≤ length kept.now) }
-    ensures { as_state result ≡ nearest_state list.now (record { log = log.entry.now; kept = kept.now }) b place }
+    ensures { as_state result ≡ nearest_state list.now (record { log = log.now; kept = kept.now }) b place }
 {
     if place == 0 {
         return begin::begun(list, b, log);

@@ -23,7 +23,7 @@ pub fn logged(
     station: u8,
     reset: u8,
 ) -> u8
-    ensures { record { number = result; state = of_parts vars.new positions.new priorities.new counts.new n b (steps_after result m); lent = record { log = log.exit.now; kept = kept.new } } ≡ logged list.now (of_parts vars.old positions.old priorities.old counts.old n b m) (record { log = log.entry.now; kept = kept.old }) (record { station = station; reset = reset }) }
+    ensures { record { number = result; state = of_parts vars.new positions.new priorities.new counts.new n b (steps_after result m); lent = record { log = log.new; kept = kept.new } } ≡ logged list.now (of_parts vars.old positions.old priorities.old counts.old n b m) (record { log = log.old; kept = kept.old }) (record { station = station; reset = reset }) }
 {
     if Record::MAX_STEPS <= m {
         return Record::FULL;

@@ -10,7 +10,7 @@ use run::State;
 // The trace of a program and a start file, whose first byte is B: the list is built into one buffer, and the start records go to the log. The
 // kept states' buffer is only asked for its room. A refusal, the program's first, comes next as the last line.
 pub fn open(program: &[u8], starts: &[u8], list: &mut [u8], log: &mut [u8], kept: &[u8]) -> Tracer
-    ensures { as_opened result list.new (record { log = log.exit.now; kept = kept.now }) ≡ opened program.now starts.now list.old (record { log = log.entry.now; kept = kept.now }) }
+    ensures { as_opened result list.new (record { log = log.new; kept = kept.now }) ≡ opened program.now starts.now list.old (record { log = log.old; kept = kept.now }) }
 {
     let built = build::build(program, list);
     if built.number != 0 {

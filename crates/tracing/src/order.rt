@@ -36,7 +36,7 @@ impl Tracer {
 
     // The next piece of the trace. A step taken writes its record to the log, and keeps the state that it reaches where it has a kept place.
     pub fn next(self, list: &[u8], log: &mut [u8], kept: &mut [u8], picks: &[u8]) -> Printed
-        ensures { as_piece result (record { log = log.exit.now; kept = kept.new }) ≡ piece list.now picks.now (record { log = log.entry.now; kept = kept.old }) (as_tracing self) }
+        ensures { as_piece result (record { log = log.new; kept = kept.new }) ≡ piece list.now picks.now (record { log = log.old; kept = kept.old }) (as_tracing self) }
     {
         let own = sizes::used(list, self.count);
         let state = self.state;
@@ -66,7 +66,7 @@ impl Tracer {
 
     // The piece of the pick at record i: the line after it, or the last line where it is refused or there is none.
     fn pick(self, list: &[u8], log: &mut [u8], kept: &mut [u8], picks: &[u8], i: usize) -> Printed
-        ensures { as_piece result (record { log = log.exit.now; kept = kept.new }) ≡ pick_piece list.now picks.now (record { log = log.entry.now; kept = kept.old }) (as_tracing self) i }
+        ensures { as_piece result (record { log = log.new; kept = kept.new }) ≡ pick_piece list.now picks.now (record { log = log.old; kept = kept.old }) (as_tracing self) i }
     {
         if picks.len() / 2 <= i {
             return self.print_then(end_line(0), Next::Nothing);

@@ -47,7 +47,7 @@ returns-then-number-ne0 c =
     let s = of_parts at.self.vars at.positions at.priorities at.counts a.self.n a.self.b at.m in
     let e = rw (ne_eqb _ _ c.if-number-ne0.true) at (c.logged-number.ensures ∙ logged_known _ s _ _ (known (goal.at.returns-then-number-ne0 c).In-loop-steps) (small (goal.at.returns-then-number-ne0 c).Start)) in
     sym (at.invariant.5
-    ∙ rw (← e) at (run_refused a.list.now a.picks.now a.count at.steps s (record { log = at.log; kept = at.auto })
+    ∙ rw (← e) at (run_refused a.list.now a.picks.now a.count at.steps s (record { log = at.log; kept = at.kept })
     c.loop-steps-test.true (λ z. c.if-number-ne0.true (ap (λ (a : Stepped). a.number) e ∙ z))))
 
 pub overflow_add-m : goal.overflow_add-m
@@ -62,12 +62,12 @@ loop-steps-preserved c =
     let e = rw (eq-eqb _ _ c.if-number-ne0.false) at (c.logged-number.ensures ∙ logged_known _ s _ _ (known (goal.at.loop-steps-preserved c).In-loop-steps) (small (goal.at.loop-steps-preserved c).Start)) in
     let taken = sym (ap (λ (a : Stepped). a.number) e) ∙ c.if-number-ne0.false in (
       search rules,
-      c.logged-number.auto.1.1.1.1.1.1.1.1.0 ∙ at.invariant.1,
-      c.logged-number.auto.1.1.1.1.1.1.1.1.1.0 ∙ at.invariant.2,
-      rw (← e) at (step_held a.list.now s (record { log = at.log; kept = at.auto }) (pick_at a.picks.now at.steps) at.invariant.3),
-      rw (← e) at (step_sound a.list.now s (record { log = at.log; kept = at.auto }) (pick_at a.picks.now at.steps) at.invariant.3 at.invariant.4),
+      c.logged-number.auto.log ∙ at.invariant.1,
+      c.logged-number.auto.kept ∙ at.invariant.2,
+      rw (← e) at (step_held a.list.now s (record { log = at.log; kept = at.kept }) (pick_at a.picks.now at.steps) at.invariant.3),
+      rw (← e) at (step_sound a.list.now s (record { log = at.log; kept = at.kept }) (pick_at a.picks.now at.steps) at.invariant.3 at.invariant.4),
       at.invariant.5
-          ∙ rw (← e) at (run_taken a.list.now a.picks.now a.count at.steps s (record { log = at.log; kept = at.auto }) c.loop-steps-test.true taken),
+          ∙ rw (← e) at (run_taken a.list.now a.picks.now a.count at.steps s (record { log = at.log; kept = at.kept }) c.loop-steps-test.true taken),
     )
 
 pub returns : goal.returns

@@ -29,8 +29,8 @@ invariant-loop-steps l =
     × (length l.kept ≡ length l.initial.kept)
     × Held (of_parts l.self.vars l.positions l.priorities l.counts l.n l.b l.m)
     × (sound_state l.list (of_parts l.self.vars l.positions l.priorities l.counts l.n l.b l.m) ≡ true)
-    × (steps_from l.list l.picks 0 l.count (as_state l.initial.self) (record { l.log = l.initial.log; l.kept = l.initial.kept })
-    ≡ counted l.steps (steps_from l.list l.picks l.steps (l.count - l.steps) (of_parts l.self.vars l.positions l.priorities l.counts l.n l.b l.m) (record { l.log = l.log; l.kept = l.kept })))
+    × (steps_from l.list l.picks 0 l.count (as_state l.initial.self) (record { log = l.initial.log; kept = l.initial.kept })
+    ≡ counted l.steps (steps_from l.list l.picks l.steps (l.count - l.steps) (of_parts l.self.vars l.positions l.priorities l.counts l.n l.b l.m) (record { log = l.log; kept = l.kept })))
 
 abbrev pub decreases-loop-steps : goal.decreases-loop-steps
 decreases-loop-steps l = l.count - l.steps

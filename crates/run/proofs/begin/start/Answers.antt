@@ -18,11 +18,11 @@ use Rattle.laws.proofs.Sound.{few_stations}
 use Rattle.starts.specs.Room.{room}
 use Rattle.starts.proofs.Written.{resets_back}
 use Rattle.run.proofs.begin.start.Goals as goal
-use Rattle.run.proofs.begin.start.Goals.{After-resets_within, After-sound, After-stations-n, After-write, After-write-arg-1, Else-not-resets_within, Else-not-sound, Else-resets-n}
+use Rattle.run.proofs.begin.start.Goals.{Else-not-sound, Else-resets-n, Else-not-resets_within}
 
 -- past the first test the list is sound
 listed : (c : Else-not-sound) → sound_list c.args.list.now ≡ true
-listed c = sym c.sound.ensures ∙ not-false _ c.if-not-sound.false-raw
+listed c = sym c.sound.ensures ∙ c.if-not-sound.false
 
 -- past the second there are as many resets as stations
 counted : (c : Else-resets-n) → let a = c.args in
@@ -32,12 +32,12 @@ counted c = c.if-resets-n.false ∙ c.stations-n.ensures
 -- past the third none is above b
 within : (c : Else-not-resets_within) → let a = c.args in
     each (λ j. leb (get_or a.resets.now j 0) a.b) (length a.resets.now) ≡ true
-within c = sym c.resets_within.ensures ∙ not-false _ c.if-not-resets_within.false-raw
+within c = sym c.resets_within.ensures ∙ c.if-not-resets_within.false
 
 pub returns-then-not-sound : goal.returns-then-not-sound
 unfolding rules.start judge
 returns-then-not-sound c =
-    rw (c.refused.ensures.0, c.refused.ensures.1, sym c.sound.ensures ∙ not-true _ c.if-not-sound.true-raw)
+    rw (c.refused.ensures.0, c.refused.ensures.1, sym c.sound.ensures ∙ c.if-not-sound.true)
 
 pub returns-then-resets-n : goal.returns-then-resets-n
 unfolding rules.start judge
@@ -58,16 +58,12 @@ returns-then-not-resets_within c =
       c.refused-then-not-resets_within.ensures.1,
       listed (goal.at.returns-then-not-resets_within c).Else-not-sound,
       eq-eqb _ _ (counted (goal.at.returns-then-not-resets_within c).Else-resets-n),
-      sym c.resets_within.ensures ∙ not-true _ c.if-not-resets_within.true-raw,
+      sym c.resets_within.ensures ∙ c.if-not-resets_within.true,
     )
-
--- there are few stations
-few : (c : Else-resets-n) → let a = c.args in stations a.list.now ≤ max_stations
-few c = few_stations _ (listed ¤Else1¤)
 
 pub overflow_mul-n : goal.overflow_mul-n
 overflow_mul-n c =
-    omega (arith, c.stations-n.ensures, few (goal.at.overflow_mul-n c).Else-resets-n)
+    omega (arith, c.stations-n.ensures, few_stations _ (listed (goal.at.overflow_mul-n c).Else-not-sound))
 
 pub returns-then-log-n : goal.returns-then-log-n
 unfolding rules.start judge
@@ -96,32 +92,29 @@ returns-then-kept c =
       lt-ltb _ (kept_length * max_kept) c.if-kept.true,
     )
 
--- the start records have their room
-written_there : (c : After-write) → let a = c.args in
-    room (length a.resets.now) a.log.now ≡ true
-written_there c =
-    let a = c.args in
-    rw (counted ¤Else2¤)
-    (both (le-leb (stations a.list.now) max_stations (few ¤Else2¤))
-    (le-leb (2 * stations a.list.now) (length a.log.now) (rw c.stations-n.ensures at c.if-log-n.false)))
-
 pub begun-requires : goal.begun-requires
-begun-requires c =
-    listed (goal.at.begun-requires c).After-sound
+begun-requires c = listed (goal.at.begun-requires c).Else-not-sound
 
+-- the start records have their room
 pub returns : goal.returns
 unfolding rules.start judge restarted
 returns c =
-    let a = c.before.args in
-    let log = rw (written_there (goal.at.returns c).After-write-arg-1) at c.write.ensures.1 in
-    let begun = rw (log, ← counted (goal.at.returns c).After-stations-n, resets_back a.log.now a.resets.now) at c.begun.ensures in
+    let a = c.args in
+    let sound = listed (goal.at.returns c).Else-not-sound in
+    let all = counted (goal.at.returns c).Else-resets-n in
+    let there : room (length a.resets.now) a.log.now ≡ true =
+    rw all
+    (both (le-leb (stations a.list.now) max_stations (few_stations _ sound))
+    (le-leb (2 * stations a.list.now) (length a.log.now) (rw c.stations-n.ensures at c.if-log-n.false))) in
+    let log = rw there at c.write.ensures.1 in
+    let begun = rw (log, ← all, resets_back a.log.now a.resets.now) at c.begun.ensures in
     rw (
-      listed (goal.at.returns c).After-sound,
-      eq-eqb _ _ (counted (goal.at.returns c).After-stations-n),
-      within (goal.at.returns c).After-resets_within,
-      ← c.stations.ensures,
-      le-ltb _ _ c.if4.false,
-      le-ltb _ (kept_length * max_kept) c.if5.false,
+      sound,
+      eq-eqb _ _ all,
+      within (goal.at.returns c).Else-not-resets_within,
+      ← c.stations-n.ensures,
+      le-ltb _ _ c.if-log-n.false,
+      le-ltb _ (kept_length * max_kept) c.if-kept.false,
       log,
       begun,
     )
