@@ -24,8 +24,11 @@ known :
 known c =
     let s = c.loop-i.s in
     elim c.if-kind-eq-OD.branch [
-      | then-kind-eq-OD+then-found-lt-MAX_LOOPS w ↦ w.s-is ∙ w.leave-s.ensures ∙ sought_found s _ w.if-kind-eq-OD.true w.if-found-lt-MAX_LOOPS.true
-      | then-kind-eq-OD+else-found-lt-MAX_LOOPS w ↦ w.s-is ∙ w.leave-s-else-found-lt-MAX_LOOPS.ensures ∙ sought_full s _ w.if-kind-eq-OD.true w.if-found-lt-MAX_LOOPS.false
+      | then-kind-eq-OD+then-found-lt-MAX_LOOPS w ↦
+          w.s-is ∙ w.leave-s.ensures ∙ sought_found s _ w.if-kind-eq-OD.true w.if-found-lt-MAX_LOOPS.true
+      | then-kind-eq-OD+else-found-lt-MAX_LOOPS w ↦
+          w.s-is ∙ w.leave-s-else-found-lt-MAX_LOOPS.ensures
+          ∙ sought_full s _ w.if-kind-eq-OD.true w.if-found-lt-MAX_LOOPS.false
       | else-kind-eq-OD w ↦ w.s-is ∙ w.seek-s.ensures
     ]
 
@@ -37,7 +40,8 @@ note c =
     let s = c.loop-i.s in
     elim c.if-kind-eq-OD.branch [
       | then-kind-eq-OD+then-found-lt-MAX_LOOPS w ↦ w.places-is ∙ rw w.innermost.ensures (noted_found s _ _ w.if-kind-eq-OD.true)
-      | then-kind-eq-OD+else-found-lt-MAX_LOOPS w ↦ w.places-is ∙ noted_full s _ _ w.if-kind-eq-OD.true c.loop-i.invariant.1 w.if-found-lt-MAX_LOOPS.false
+      | then-kind-eq-OD+else-found-lt-MAX_LOOPS w ↦
+          w.places-is ∙ noted_full s _ _ w.if-kind-eq-OD.true c.loop-i.invariant.1 w.if-found-lt-MAX_LOOPS.false
       | else-kind-eq-OD w ↦ w.places-is ∙ noted_none s _ _ w.if-kind-eq-OD.false
     ]
 

@@ -1,15 +1,12 @@
 -- `soundness::bounded` meets its contract. The loop's invariant: each priority passed is, with its count, at most b. The measure is what is
 -- left of the stations.
 -- Assumes nothing.
-use Prim.Native.Nat.{ℕ, ◌-◌, ◌≤◌, ◌<◌}
 use mathlib.Core.Path.{◌≡◌, sym, ◌∙◌}
-use mathlib.Core.Bool.{true}
 use native.Mathlib.Omega.{arith}
 use mir.Syntax.{w16}
 use mir.ValLaws.{to_z-of_z}
 use borrow.Author.Rules.{rules}
 use borrow.Author.Count.{below_none, below_more}
-use borrow.Author.Tests.{not-true, not-false}
 use Rattle.laws.proofs.Places.{each_all, each_not}
 use Rattle.rules.specs.State.{priority_in, count_in, in_bound}
 use Rattle.soundness.proofs.bounded.Goals as goal
@@ -27,11 +24,15 @@ judged c =
 
 pub returns-then-not-within : goal.returns-then-not-within
 returns-then-not-within c =
-    sym (each_not _ c.args.n c.loop-j.j (search rules) (sym (judged (goal.at.returns-then-not-within c).After-within) ∙ not-true _ c.if-not-within.true-raw))
+    sym (each_not _ c.args.n c.loop-j.j (search rules)
+    (sym (judged (goal.at.returns-then-not-within c).After-within) ∙ c.if-not-within.true))
 
 pub loop-j-preserved : goal.loop-j-preserved
-loop-j-preserved c =
-    (search rules, below_more _ _ c.loop-j.invariant.1 (sym (judged (goal.at.loop-j-preserved c).After-within) ∙ not-false _ c.if-not-within.false-raw))
+loop-j-preserved c = (
+  search rules,
+  below_more _ _ c.loop-j.invariant.1
+      (sym (judged (goal.at.loop-j-preserved c).After-within) ∙ c.if-not-within.false),
+)
 
 pub returns : goal.returns
 returns c =

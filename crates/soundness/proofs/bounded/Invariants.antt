@@ -2,15 +2,8 @@
 -- left of the stations.
 -- Assumes nothing.
 use Prim.Native.Nat.{ℕ, ◌-◌, ◌≤◌, ◌<◌}
-use mathlib.Core.Path.{◌≡◌, sym, ◌∙◌}
+use mathlib.Core.Path.{◌≡◌}
 use mathlib.Core.Bool.{true}
-use native.Mathlib.Omega.{arith}
-use mir.Syntax.{w16}
-use mir.ValLaws.{to_z-of_z}
-use borrow.Author.Rules.{rules}
-use borrow.Author.Count.{below_none, below_more}
-use borrow.Author.Tests.{not-true, not-false}
-use Rattle.laws.proofs.Places.{each_all, each_not}
 use Rattle.rules.specs.State.{priority_in, count_in, in_bound}
 use Rattle.soundness.proofs.bounded.Given as goal
 

@@ -2,14 +2,9 @@
 -- places.
 -- Assumes nothing.
 use Prim.Native.Nat.{ℕ, ◌-◌, ◌≤◌, ◌<◌}
-use mathlib.Core.Path.{◌≡◌, sym, ◌∙◌}
+use mathlib.Core.Path.{◌≡◌}
 use mathlib.Core.Bool.{true}
-use native.Mathlib.Omega.{arith}
-use borrow.Author.Rules.{rules}
-use borrow.Author.Count.{below_more}
-use borrow.Author.Tests.{not-true, not-false}
 use Rattle.rules.specs.Names.{max_stations}
-use Rattle.laws.proofs.From.{each_between, each_from_not}
 use Rattle.rules.specs.State.{empty_in}
 use Rattle.soundness.proofs.empty.Given as goal
 

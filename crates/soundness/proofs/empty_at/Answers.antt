@@ -1,6 +1,5 @@
 -- `soundness::empty_at` meets its contract.
 -- Assumes nothing.
-use borrow.Author.Rules.{rules}
 use Rattle.soundness.proofs.Signed.{is_zero}
 use Rattle.soundness.proofs.empty_at.Goals as goal
 

@@ -4,7 +4,6 @@ use native.Mathlib.Omega.{arith}
 use mir.Syntax.{w16}
 use mir.ValLaws.{to_z-of_z, to_z_pos}
 use lib.IntN.{+ℤ_idl}
-use borrow.Author.Rules.{rules}
 use Rattle.soundness.proofs.Signed.{sfits_neg}
 use Rattle.soundness.proofs.low.Goals as goal
 

@@ -1,8 +1,7 @@
 -- `soundness::low_count` meets its contract. The loop's invariant: those passed are counted. The measure is what is left of the stations.
 -- Assumes nothing.
-use Prim.Native.Nat.{ℕ, ◌-◌, ◌≤◌}
+use Prim.Native.Nat.{ℕ}
 use mathlib.Core.Path.{◌≡◌, refl, ◌∙◌}
-use mathlib.Core.Logic.{⊎_elim}
 use mathlib.Core.Bool.{Bool}
 use native.Mathlib.Numerals.{add-one}
 use native.Mathlib.Omega.{arith}
@@ -31,11 +30,10 @@ loop-j-preserved c =
     let j = c.loop-j.j in
     let counted = c.loop-j.invariant.1 in (
       search rules,
-      rw (add-one, tally_suc low j, ← c.low.ensures)
-          (elim c.if-low.branch [
-            then-low w ↦ rw w.if-low.true (w.count-is ∙ rw (counted, add-one))
-            | else-low w ↦ rw w.if-low.false (w.count-is ∙ counted)
-          ]),
+      rw (add-one, tally_suc low j, ← c.low.ensures) (elim c.if-low.branch [
+        | then-low w ↦ rw w.if-low.true (w.count-is ∙ rw (counted, add-one))
+        | else-low w ↦ rw w.if-low.false (w.count-is ∙ counted)
+      ]),
     )
 
 pub returns : goal.returns

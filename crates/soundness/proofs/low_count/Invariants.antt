@@ -1,16 +1,10 @@
 -- `soundness::low_count` meets its contract. The loop's invariant: those passed are counted. The measure is what is left of the stations.
 -- Assumes nothing.
-use Prim.Native.Nat.{ℕ, ◌-◌, ◌≤◌}
-use mathlib.Core.Path.{◌≡◌, refl, ◌∙◌}
-use mathlib.Core.Logic.{⊎_elim}
-use mathlib.Core.Bool.{Bool}
-use native.Mathlib.Numerals.{add-one}
-use native.Mathlib.Omega.{arith}
+use Prim.Native.Nat.{◌-◌, ◌≤◌}
+use mathlib.Core.Path.{◌≡◌}
 use lib.IntN.{pos, neg_ℤ}
 use lib.Signed.{le_z}
-use borrow.Author.Rules.{rules}
 use Rattle.rules.specs.Words.{tally}
-use Rattle.laws.proofs.Places.{tally_suc, tally_within}
 use Rattle.rules.specs.State.{priority_in}
 use Rattle.soundness.proofs.low_count.Given as goal
 

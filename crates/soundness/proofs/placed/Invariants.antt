@@ -2,13 +2,8 @@
 -- stations.
 -- Assumes nothing.
 use Prim.Native.Nat.{ℕ, ◌-◌, ◌≤◌, ◌<◌}
-use mathlib.Core.Path.{◌≡◌, sym, ◌∙◌}
+use mathlib.Core.Path.{◌≡◌}
 use mathlib.Core.Bool.{true}
-use native.Mathlib.Omega.{arith}
-use borrow.Author.Rules.{rules}
-use borrow.Author.Count.{below_none, below_more}
-use borrow.Author.Tests.{not-true, not-false}
-use Rattle.laws.proofs.Places.{each_all, each_not}
 use Rattle.rules.specs.List.{is_at}
 use Rattle.rules.specs.State.{position_in}
 use Rattle.soundness.proofs.placed.Given as goal
