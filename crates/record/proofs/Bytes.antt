@@ -7,7 +7,7 @@ use native.Mathlib.Nat.{add_assoc, add-zero}
 use native.Mathlib.Omega.{arith}
 use lib.ListN.{length, get_or, replicate, get_or-eq_default}
 use Rattle.rules.specs.Words.{values}
-use Rattle.rules.specs.Records.{Record, record_from}
+use Rattle.rules.specs.Records.{record_from}
 use Rattle.record.specs.View.{list_record_from, sixteen_from}
 
 -- what the sixteen bytes from an offset spell is the record there

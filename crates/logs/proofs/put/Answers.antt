@@ -1,9 +1,7 @@
 -- `logs::put` meets its contract. Assumes nothing.
 use Prim.Native.Nat.{◌+◌, ◌*◌}
-use mathlib.Core.Path.{◌≡◌}
 use native.Mathlib.Omega.{arith}
 use lib.ListN.{length, length-set}
-use borrow.Author.Rules.{rules}
 use borrow.Author.Tests.{le-leb, lt-leb}
 use Rattle.laws.proofs.Written.{written_record}
 use Rattle.logs.proofs.put.Goals as goal

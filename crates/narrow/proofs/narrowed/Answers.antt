@@ -2,8 +2,6 @@
 -- Assumes nothing.
 use mathlib.Core.Path.{sym, ◌∙◌}
 use Prim.Native.Nat.{◌*◌}
-use native.Mathlib.Omega.{arith}
-use borrow.Author.Rules.{rules}
 use Rattle.rules.specs.Records.{record_from, list_record_at}
 use Rattle.laws.proofs.Narrow.{narrow_at, narrow_past}
 use Rattle.narrow.proofs.Bytes.{half_at, word_at}

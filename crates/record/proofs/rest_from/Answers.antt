@@ -1,12 +1,12 @@
 -- `record::rest_from` meets its contract. The loop's invariant: the places passed are filled. The measure is what is left of the sixteen.
 -- Assumes nothing.
-use Prim.Native.Nat.{◌+◌, ◌-◌, ◌≤◌, ◌<◌}
+use Prim.Native.Nat.{◌+◌, ◌-◌, ◌<◌}
 use mathlib.Core.Path.{◌≡◌, ◌∙◌}
 use native.Mathlib.Omega.{arith}
 use lib.ListN.{length, get_or, get_or-eq_default}
 use borrow.Author.Rules.{rules}
 use borrow.Author.Tests.{ltb-true, ltb-false}
-use Rattle.laws.proofs.Filled.{filled, filled_none, filled_more, filled_all, filled_rest}
+use Rattle.laws.proofs.Filled.{filled_none, filled_more, filled_all, filled_rest}
 use Rattle.record.proofs.rest_from.Goals as goal
 use Rattle.record.proofs.rest_from.Goals.{Then-i-bytes}
 
@@ -22,13 +22,12 @@ pub bounds-bytes-at : goal.bounds-bytes-at
 bounds-bytes-at c = omega (arith, more (goal.at.bounds-bytes-at c).Then-i-bytes)
 
 pub loop-i-preserved : goal.loop-i-preserved
-loop-i-preserved c =
-    (
-      search rules,
-      omega (arith, more (goal.at.loop-i-preserved c).Then-i-bytes),
-      rw c.loop-i.invariant.2
-          (filled_more (λ k. get_or c.args.bytes.now (c.args.at + k) 0) 0 16 c.loop-i.i (search rules)),
-    )
+loop-i-preserved c = (
+  search rules,
+  omega (arith, more (goal.at.loop-i-preserved c).Then-i-bytes),
+  rw c.loop-i.invariant.2
+      (filled_more (λ k. get_or c.args.bytes.now (c.args.at + k) 0) 0 16 c.loop-i.i (search rules)),
+)
 
 pub returns-else-i-bytes : goal.returns-else-i-bytes
 returns-else-i-bytes c =

@@ -3,7 +3,6 @@
 use Prim.Native.Nat.{suc, ◌-◌}
 use mathlib.Core.Path.{sym}
 use native.Mathlib.Omega.{arith}
-use borrow.Author.Rules.{rules}
 use borrow.Author.Tests.{ne_eqb}
 use Rattle.targets.proofs.Tests.{eqb_same}
 use Rattle.targets.proofs.follows.Goals as goal

@@ -1,6 +1,5 @@
 -- `targets::inside_target` meets its contract, by what `inside` answers.
 -- Assumes nothing.
-use borrow.Author.Rules.{rules}
 use Rattle.rules.specs.List.{inside_target}
 use Rattle.targets.proofs.inside_target.Goals as goal
 

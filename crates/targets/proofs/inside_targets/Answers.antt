@@ -1,6 +1,5 @@
 -- `targets::inside_targets` meets its contract, by what `inside_target` answers of each target.
 -- Assumes nothing.
-use borrow.Author.Rules.{rules}
 use borrow.Author.Tests.{eq-eqb, ne_eqb}
 use Rattle.rules.specs.List.{inside_targets}
 use Rattle.targets.proofs.inside_targets.Goals as goal

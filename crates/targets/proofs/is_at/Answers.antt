@@ -1,7 +1,6 @@
 -- `targets::is_at` meets its contract: below the first later record and past the end there is none, and between them the bytes 8 and 9
 -- of the record at p are compared.
 -- Assumes nothing.
-use borrow.Author.Rules.{rules}
 use borrow.Author.Tests.{lt-ltb, le-ltb, le-leb, lt-leb}
 use Rattle.rules.specs.Records.{list_record_at}
 use Rattle.rules.specs.List.{is_at}

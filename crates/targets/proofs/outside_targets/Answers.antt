@@ -1,7 +1,6 @@
 -- `targets::outside_targets` meets its contract: the tests on the kind lead to its case, and there the calls answer of each target.
 -- Assumes nothing.
 use mathlib.Core.Bool.{or-false}
-use borrow.Author.Rules.{rules}
 use borrow.Author.Tests.{eq-eqb, ne_eqb}
 use Rattle.rules.specs.List.{outside_targets}
 use Rattle.targets.proofs.outside_targets.Goals as goal

@@ -8,7 +8,6 @@ use mathlib.Core.List.{[], ◌∷◌}
 use mathlib.Core.Path.{◌∙◌}
 use lib.ListN.{length-append}
 use lib.Seq.{take_all}
-use borrow.Author.Rules.{rules}
 use Rattle.text.proofs.end_line.Goals as goal
 
 pub returns : goal.returns

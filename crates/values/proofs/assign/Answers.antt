@@ -1,6 +1,6 @@
 -- `values::assign` meets its contract: past the last variable the rules change nothing.
 -- Assumes nothing.
-use Rattle.std.proofs.Common.{sym, rules}
+use Rattle.std.proofs.Common.{sym}
 use lib.Seq.{set_out}
 use Rattle.rules.specs.Values.{set_value}
 use Rattle.values.proofs.assign.Goals as goal

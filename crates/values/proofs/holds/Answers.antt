@@ -1,6 +1,6 @@
 -- `values::holds` meets its contract: the second number is k, or what variable k holds, as the op says.
 -- Assumes nothing.
-use Rattle.std.proofs.Common.{rules, le-ltb, lt-ltb}
+use Rattle.std.proofs.Common.{le-ltb, lt-ltb}
 use Rattle.rules.specs.Values.{holds}
 use Rattle.values.proofs.holds.Goals as goal
 

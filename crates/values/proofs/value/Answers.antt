@@ -1,6 +1,6 @@
 -- `values::value` meets its contract: each arm is an op of the rules.
 -- Assumes nothing.
-use Rattle.std.proofs.Common.{rules, ne_eqb}
+use Rattle.std.proofs.Common.{ne_eqb}
 use Rattle.rules.specs.Values.{set_value}
 use Rattle.values.proofs.value.Goals as goal
 

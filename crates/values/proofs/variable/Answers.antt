@@ -1,6 +1,6 @@
 -- `values::variable` meets its contract: past the last variable the rules read 0.
 -- Assumes nothing.
-use Rattle.std.proofs.Common.{sym, rules}
+use Rattle.std.proofs.Common.{sym}
 use lib.ListN.{get_or-eq_default}
 use Rattle.values.proofs.variable.Goals as goal
 

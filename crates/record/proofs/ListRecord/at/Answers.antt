@@ -1,6 +1,5 @@
 -- `record::ListRecord::at` meets its contract: a whole record's offset is 16 * p. Assumes nothing.
 use Rattle.rules.specs.Records.{list_record_at}
-use borrow.Author.Rules.{rules}
 use Rattle.record.proofs.ListRecord.at.Goals as goal
 
 pub returns-then-p-list : goal.returns-then-p-list

@@ -4,7 +4,6 @@ use Prim.Native.Nat.{◌*◌}
 use mathlib.Core.Path.{◌∙◌}
 use mathlib.Core.Logic.{inl, inr}
 use native.Mathlib.Omega.{arith}
-use borrow.Author.Rules.{rules}
 use Rattle.rules.specs.Records.{list_record_at}
 use Rattle.record.proofs.Bytes.{stands, list_spelled}
 use Rattle.record.proofs.ListRecord.cut.Goals as goal

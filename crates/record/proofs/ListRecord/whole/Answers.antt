@@ -1,7 +1,5 @@
 -- `record::ListRecord::whole` meets its contract: `half` gives the targets, and the other fields are bytes. Assumes nothing.
 use native.Mathlib.Nat.{add_assoc}
-use native.Mathlib.Omega.{arith}
-use borrow.Author.Rules.{rules}
 use Rattle.record.proofs.ListRecord.whole.Goals as goal
 
 pub returns : goal.returns

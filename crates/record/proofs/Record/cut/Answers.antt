@@ -4,7 +4,6 @@ use Prim.Native.Nat.{◌*◌}
 use mathlib.Core.Path.{◌∙◌}
 use mathlib.Core.Logic.{inl, inr}
 use native.Mathlib.Omega.{arith}
-use borrow.Author.Rules.{rules}
 use Rattle.record.proofs.Bytes.{stands, spelled}
 use Rattle.record.proofs.Record.cut.Goals as goal
 use Rattle.record.proofs.Record.cut.Goals.{then-i-file, else-i-file}

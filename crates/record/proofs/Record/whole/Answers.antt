@@ -1,8 +1,6 @@
 -- `record::Record::whole` meets its contract: `word` gives k, and the other fields are bytes. Assumes nothing.
 use native.Mathlib.Nat.{add_assoc}
-use native.Mathlib.Omega.{arith}
 use Rattle.rules.specs.Records.{record_from}
-use borrow.Author.Rules.{rules}
 use Rattle.record.proofs.Record.whole.Goals as goal
 
 pub returns : goal.returns

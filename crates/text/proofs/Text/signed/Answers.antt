@@ -9,7 +9,6 @@ use mathlib.Core.Path.{ap}
 use lib.IntN.{pos, nat_abs}
 use mir.Syntax.{w16, w32}
 use mir.ValLaws.{to_z-of_z}
-use borrow.Author.Rules.{rules}
 use Rattle.text.proofs.Text.signed.Goals as goal
 
 pub overflow_cast-below : goal.overflow_cast-below

@@ -2,9 +2,9 @@
 -- Assumes nothing.
 use Rattle.text.specs.View.{max_line, text_of}
 use Rattle.text.proofs.Texts.{put_whole, put_after}
-use mathlib.Core.List.{[], ◌∷◌, ◌++◌, append-nil}
-use mathlib.Core.Path.{◌≡◌, sym, ap, ◌∙◌}
-use Prim.Native.Nat.{◌≤◌, ◌<◌, ◌-◌}
+use mathlib.Core.List.{[], ◌∷◌, append-nil}
+use mathlib.Core.Path.{sym, ap, ◌∙◌}
+use Prim.Native.Nat.{◌<◌}
 use native.Mathlib.Numerals.{add-one}
 use native.Mathlib.Omega.{arith}
 use lib.ListN.{length, take, get_or}
