@@ -1,27 +1,43 @@
 // What the programs over a folder share: a file is read, and a text is written.
 #![tactic(auto)]
 
-ghost use Rattle.io.specs.Counts.{IsPrefixLen};
+ghost use Rattle.std.specs.Prelude.{◌≤◌, length};
 
-use libc::STDOUT_FILENO;
+use std::fs::File;
+use std::io::Read;
+use std::rt::Files;
 use text::Text;
 
 // Reads a file until the buffer is full, it ends or a read fails, and answers how many bytes came. One that cannot be opened counts as empty.
-pub fn read(path: &[u8], buffer: &mut [u8]) -> usize
-    ensures { IsPrefixLen result buffer.new }
+pub fn read(rt: &impl Files, path: &[u8], buffer: &mut [u8]) -> usize
+    ensures { result ≤ length buffer.new }
 {
-    let file = os::open_read(path);
-    if file < 0 {
+    let Ok(path) = str::from_utf8(path) else {
         return 0;
+    };
+    match File::open(rt, path) {
+        Ok(mut file) => fill(&mut file, buffer),
+        Err(_) => 0,
     }
-    let count = io::read_full(file, buffer);
-    libc::close(file);
-    count
+}
+
+// Reads until the buffer is full, the reader ends or a read fails, and answers how many bytes came.
+pub fn fill(reader: &mut impl Read, buffer: &mut [u8]) -> usize
+    ensures { result ≤ length buffer.new }
+{
+    let mut done: usize = 0;
+    while done < buffer.len() {
+        match reader.read(&mut buffer[done..]) {
+            Ok(count) if count > 0 => done += count,
+            _ => break,
+        }
+    }
+    done
 }
 
 // Writes a text to the standard output, and answers whether it could be written.
-pub fn print(text: Text) -> bool {
+pub fn print(rt: &impl Print, text: Text) -> bool {
     let bytes = text.bytes;
-    let count = io::count(text.len as isize, &bytes);
-    io::write_all(STDOUT_FILENO, &bytes[..count])
+    let count = (text.len as usize).min(bytes.len());
+    rt.write_all(&bytes[..count]).is_ok()
 }

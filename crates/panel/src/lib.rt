@@ -1,4 +1,4 @@
-// The press panel's calls, each under a plain name for C. Another crate calls them by the same names.
+// The press panel's calls, each under a plain name. Another crate calls them by these, and C, through `panel_c`, by the same.
 #![tactic(auto)]
 
 mod exports;

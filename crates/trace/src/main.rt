@@ -5,12 +5,19 @@
 use tracing::Tracer;
 
 // Prints a trace piece by piece, until all is printed or nothing more can be written.
-fn print_all(first: Tracer, list: &[u8], log: &mut [u8], kept: &mut [u8], picks: &[u8]) {
+fn print_all(
+    rt: &impl Print,
+    first: Tracer,
+    list: &[u8],
+    log: &mut [u8],
+    kept: &mut [u8],
+    picks: &[u8],
+) {
     let mut tracer = first;
     while !tracer.done() {
         let printed = tracer.next(list, log, kept, picks);
         let text = printed.text;
-        if !files::print(text) {
+        if !files::print(rt, text) {
             return;
         }
         let after = printed.tracer;
@@ -19,22 +26,23 @@ fn print_all(first: Tracer, list: &[u8], log: &mut [u8], kept: &mut [u8], picks:
 }
 
 // Prints the trace of three files.
-fn trace(program: &[u8], starts: &[u8], picks: &[u8]) {
+fn trace(rt: &impl Print, program: &[u8], starts: &[u8], picks: &[u8]) {
     let mut list = [0u8; sizes::LIST_BYTES];
     let mut log = [0u8; sizes::LOG_BYTES];
     let mut kept = [0u8; sizes::KEPT_BYTES];
     let first = tracing::open(program, starts, &mut list, &mut log, &kept);
-    print_all(first, &list, &mut log, &mut kept, picks);
+    print_all(rt, first, &list, &mut log, &mut kept, picks);
 }
 
-fn main() {
+fn main(rt: HostRuntime) {
     let mut program = [0u8; sizes::ENOUGH];
     let mut starts = [0u8; sizes::ENOUGH_STARTS];
     let mut picks = [0u8; sizes::ENOUGH];
-    let program_count = files::read(b"program.rec", &mut program);
-    let starts_count = files::read(b"start.rec", &mut starts);
-    let picks_count = files::read(b"picks.rec", &mut picks);
+    let program_count = files::read(&rt, b"program.rec", &mut program);
+    let starts_count = files::read(&rt, b"start.rec", &mut starts);
+    let picks_count = files::read(&rt, b"picks.rec", &mut picks);
     trace(
+        &rt,
         &program[..program_count],
         &starts[..starts_count],
         &picks[..picks_count],

@@ -7,6 +7,7 @@ use crate::kept::kept_field;
 use crate::lines::line;
 use crate::states::{hash_state, state};
 use run::Outcome;
+use std::io::Read;
 
 // The calls by their numbers in the stream and in the lines.
 const CHECK: u8 = 1;
@@ -29,37 +30,38 @@ const WHY: u8 = 10;
 
 // Reads the fields of a call by its number and writes its line. It answers whether to go on: not at a number that none of them has, or where
 // the line cannot be written.
-pub fn answer(file: i32, call: u8) -> bool {
+pub fn answer(rt: &impl Print, file: &mut impl Read, call: u8) -> bool {
     match call {
-        CHECK => check(file),
-        BUILD => build(file),
-        START => start(file),
-        STEP => step(file),
-        RUN => run(file),
-        UNDO => undo(file),
-        LIGHTS => lights(file),
-        READINESS => readiness(file),
-        WHY => why(file),
+        CHECK => check(rt, file),
+        BUILD => build(rt, file),
+        START => start(rt, file),
+        STEP => step(rt, file),
+        RUN => run(rt, file),
+        UNDO => undo(rt, file),
+        LIGHTS => lights(rt, file),
+        READINESS => readiness(rt, file),
+        WHY => why(rt, file),
         _ => false,
     }
 }
 
 // A case of check: a program. Its line: the number and the place.
-fn check(file: i32) -> bool {
+fn check(rt: &impl Print, file: &mut impl Read) -> bool {
     let mut program = buffer();
     let program = field(file, &mut program);
     let checked = panel::press_check(program);
-    line(CHECK, &[checked.number as u64, checked.place as u64])
+    line(rt, CHECK, &[checked.number as u64, checked.place as u64])
 }
 
 // A case of build: a program and a buffer. Its line: the number, the place, the count and the buffer.
-fn build(file: i32) -> bool {
+fn build(rt: &impl Print, file: &mut impl Read) -> bool {
     let mut program = buffer();
     let mut list = buffer();
     let program = field(file, &mut program);
     let list = field(file, &mut list);
     let built = panel::press_build(program, list);
     line(
+        rt,
         BUILD,
         &[
             built.number as u64,
@@ -71,7 +73,7 @@ fn build(file: i32) -> bool {
 }
 
 // A case of start: a list, b, the resets, a log and the kept states. Its line: that of an outcome.
-fn start(file: i32) -> bool {
+fn start(rt: &impl Print, file: &mut impl Read) -> bool {
     let mut list = buffer();
     let mut resets = buffer();
     let mut log = buffer();
@@ -83,11 +85,11 @@ fn start(file: i32) -> bool {
     let mut kept = buffer();
     let kept = kept_field(file, &mut kept);
     let started = panel::press_start(list, b, resets, log, kept);
-    outcome(START, started, log, kept)
+    outcome(rt, START, started, log, kept)
 }
 
 // A case of step: a list, a state, a log, the kept states and a pick. Its line: that of an outcome.
-fn step(file: i32) -> bool {
+fn step(rt: &impl Print, file: &mut impl Read) -> bool {
     let mut list = buffer();
     let mut log = buffer();
     let list = field(file, &mut list);
@@ -99,12 +101,12 @@ fn step(file: i32) -> bool {
     let station = byte(file);
     let reset = byte(file);
     let stepped = panel::press_step(given, list, log, kept, station, reset);
-    outcome(STEP, stepped, log, kept)
+    outcome(rt, STEP, stepped, log, kept)
 }
 
 // A case of run: a list, a state, a log, the kept states, the picks and the most-steps number. Its line: the number, the steps taken, the state
 // and the two buffers.
-fn run(file: i32) -> bool {
+fn run(rt: &impl Print, file: &mut impl Read) -> bool {
     let mut list = buffer();
     let mut log = buffer();
     let mut picks = buffer();
@@ -119,6 +121,7 @@ fn run(file: i32) -> bool {
     let ran = panel::press_run(given, list, log, kept, picks, most as usize);
     let reached = ran.state;
     line(
+        rt,
         RUN,
         &[
             ran.number as u64,
@@ -131,7 +134,7 @@ fn run(file: i32) -> bool {
 }
 
 // A case of undo: a list, a state, a log and the kept states. Its line: the number and the state.
-fn undo(file: i32) -> bool {
+fn undo(rt: &impl Print, file: &mut impl Read) -> bool {
     let mut list = buffer();
     let mut log = buffer();
     let list = field(file, &mut list);
@@ -141,17 +144,18 @@ fn undo(file: i32) -> bool {
     let kept = kept_field(file, &mut kept);
     let undone = panel::press_undo(given, list, log, kept);
     let reached = undone.state;
-    line(UNDO, &[undone.number as u64, hash_state(reached)])
+    line(rt, UNDO, &[undone.number as u64, hash_state(reached)])
 }
 
 // A case of lights: a list and a state. Its line: the number, the four masks, and the two rows together.
-fn lights(file: i32) -> bool {
+fn lights(rt: &impl Print, file: &mut impl Read) -> bool {
     let mut list = buffer();
     let list = field(file, &mut list);
     let given = state(file);
     let lit = panel::press_lights(given, list);
     let rows = lit.rows();
     line(
+        rt,
         LIGHTS,
         &[
             lit.number as u64,
@@ -165,19 +169,19 @@ fn lights(file: i32) -> bool {
 }
 
 // A case of readiness: a list, a state and a station. Its line: the number and the place.
-fn readiness(file: i32) -> bool {
+fn readiness(rt: &impl Print, file: &mut impl Read) -> bool {
     let mut list = buffer();
     let list = field(file, &mut list);
     let given = state(file);
     half(file);
     let station = byte(file);
     let told = panel::press_readiness(given, list, station);
-    line(READINESS, &[told.number as u64, told.place as u64])
+    line(rt, READINESS, &[told.number as u64, told.place as u64])
 }
 
 // A case of why: a list, a state and a station. Its line: the number, the place, the station ahead, how many variables are named, and the two
 // variables and their values.
-fn why(file: i32) -> bool {
+fn why(rt: &impl Print, file: &mut impl Read) -> bool {
     let mut list = buffer();
     let list = field(file, &mut list);
     let given = state(file);
@@ -187,6 +191,7 @@ fn why(file: i32) -> bool {
     let first = why.seen(0);
     let second = why.seen(1);
     line(
+        rt,
         WHY,
         &[
             why.number as u64,
@@ -202,9 +207,10 @@ fn why(file: i32) -> bool {
 }
 
 // The line of a start and of a step: the number, the state and the two buffers.
-fn outcome(call: u8, outcome: Outcome, log: &[u8], kept: &[u8]) -> bool {
+fn outcome(rt: &impl Print, call: u8, outcome: Outcome, log: &[u8], kept: &[u8]) -> bool {
     let state = outcome.state;
     line(
+        rt,
         call,
         &[
             outcome.number as u64,

@@ -2,13 +2,14 @@
 ghost use Rattle.std.specs.Prelude.{◌≤◌};
 
 use crate::fields::{MAX_FIELD, buffer, field};
+use std::io::Read;
 
 // Reads that field: the buffer's length, two bytes; a byte f, by which byte i is f * (i + 1) mod 256; and then patches, each an offset and a
 // count of two bytes and so many bytes that are put there. It answers the part of the buffer that they come to.
-pub(crate) fn kept_field(file: i32, kept: &mut [u8]) -> &mut [u8] {
+pub(crate) fn kept_field<'a>(file: &mut impl Read, kept: &'a mut [u8]) -> &'a mut [u8] {
     let mut made = buffer();
     let made = field(file, &mut made);
-    let length = io::count(half_at(made, 0) as isize, kept);
+    let length = (half_at(made, 0) as usize).min(kept.len());
     let part = &mut kept[..length];
     fill(part, byte_at(made, 2));
     patch(part, made);

@@ -1,30 +1,26 @@
 // An answer line: the call's number and the numbers of its answer, in decimal with single spaces.
-use libc::STDOUT_FILENO;
 
 // Writes a line, and answers whether it could be written.
-pub fn line(call: u8, numbers: &[u64]) -> bool {
-    if !io::print_decimal(STDOUT_FILENO, call as u64) {
+pub fn line(rt: &impl Print, call: u8, numbers: &[u64]) -> bool {
+    if print!(rt; "{call}").is_err() {
         return false;
     }
     let mut i: usize = 0;
     while i < numbers.len() {
-        if !spaced(numbers[i]) {
+        if !spaced(rt, numbers[i]) {
             return false;
         }
         i += 1;
     }
-    end_line()
+    end_line(rt)
 }
 
 // Writes a number after a space.
-fn spaced(number: u64) -> bool {
-    if !io::write_all(STDOUT_FILENO, b" ") {
-        return false;
-    }
-    io::print_decimal(STDOUT_FILENO, number)
+fn spaced(rt: &impl Print, number: u64) -> bool {
+    print!(rt; " {number}").is_ok()
 }
 
 // Writes the end of a line.
-fn end_line() -> bool {
-    io::write_all(STDOUT_FILENO, b"\n")
+fn end_line(rt: &impl Print) -> bool {
+    println!(rt).is_ok()
 }

@@ -3,6 +3,7 @@
 use crate::fields::{byte, half, word};
 use crate::hash::{NONE, after_byte, after_half, after_word};
 use run::State;
+use std::io::Read;
 
 // The numbers before n are counted from the first variable on: the first position is number 32, the first priority 40, the first count 48, and
 // there are 56.
@@ -15,7 +16,7 @@ const COUNTS: usize = 48;
 const NUMBERS: usize = 56;
 
 // Reads a field that is a state; its length, which is always 180, is read over.
-pub(crate) fn state(file: i32) -> State {
+pub(crate) fn state(file: &mut impl Read) -> State {
     half(file);
     let mut state = State::zeros();
     let mut i: usize = 0;
@@ -41,7 +42,7 @@ pub(crate) fn hash_state(state: State) -> u64 {
 }
 
 // Reads number i of a state into it.
-fn with_number(file: i32, mut state: State, i: usize) -> State {
+fn with_number(file: &mut impl Read, mut state: State, i: usize) -> State {
     if i < POSITIONS {
         state.vars[i] = word(file);
     } else if i < PRIORITIES {

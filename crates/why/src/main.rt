@@ -24,11 +24,11 @@ fn line(state: State, list: &[u8], station: u8) -> Text
 }
 
 // Prints the line of each station, until all are printed or nothing more can be written, and answers whether all are.
-fn print_lines(state: State, list: &[u8]) -> bool {
+fn print_lines(rt: &impl Print, state: State, list: &[u8]) -> bool {
     let n = state.n;
     let mut j: u8 = 0;
     while j < n {
-        if !files::print(line(state, list, j)) {
+        if !files::print(rt, line(state, list, j)) {
             return false;
         }
         j += 1;
@@ -37,7 +37,7 @@ fn print_lines(state: State, list: &[u8]) -> bool {
 }
 
 // Prints what three files come to.
-fn tell(program: &[u8], starts: &[u8], picks: &[u8]) {
+fn tell(rt: &impl Print, program: &[u8], starts: &[u8], picks: &[u8]) {
     let mut list = [0u8; sizes::LIST_BYTES];
     let mut log = [0u8; sizes::LOG_BYTES];
     let mut kept = [0u8; sizes::KEPT_BYTES];
@@ -45,19 +45,20 @@ fn tell(program: &[u8], starts: &[u8], picks: &[u8]) {
     let reached = reaching::reach(first, &list, &mut log, &mut kept, picks);
     let state = reached.state;
     let text = reached.text;
-    if print_lines(state, sizes::used(&list, reached.count)) {
-        files::print(text);
+    if print_lines(rt, state, sizes::used(&list, reached.count)) {
+        files::print(rt, text);
     }
 }
 
-fn main() {
+fn main(rt: HostRuntime) {
     let mut program = [0u8; sizes::ENOUGH];
     let mut starts = [0u8; sizes::ENOUGH_STARTS];
     let mut picks = [0u8; sizes::ENOUGH];
-    let program_count = files::read(b"program.rec", &mut program);
-    let starts_count = files::read(b"start.rec", &mut starts);
-    let picks_count = files::read(b"picks.rec", &mut picks);
+    let program_count = files::read(&rt, b"program.rec", &mut program);
+    let starts_count = files::read(&rt, b"start.rec", &mut starts);
+    let picks_count = files::read(&rt, b"picks.rec", &mut picks);
     tell(
+        &rt,
         &program[..program_count],
         &starts[..starts_count],
         &picks[..picks_count],

@@ -1,0 +1,22 @@
+-- `masks::Masks::of` meets its contract. The loop's invariant: the masks of the stations from j on are gathered. The measure is j.
+-- Assumes nothing.
+use mathlib.Core.Path.{◌≡◌, refl, ◌∙◌}
+use mathlib.Core.Logic.{⊎_elim}
+use Prim.Native.Nat.{◌+◌, ◌-◌, ◌≤◌, ◌<◌, min}
+use native.Mathlib.Nat.{min-le_right}
+use native.Mathlib.Omega.{arith}
+use borrow.Author.Rules.{rules}
+use Rattle.rules.specs.Names.{max_stations}
+use Rattle.rules.specs.State.{State}
+use Rattle.stations.proofs.Known.{ready_known}
+use Rattle.touches.specs.Touched.{touched_by}
+use Rattle.masks.specs.Masks.{state_of, masks_from}
+use Rattle.masks.proofs.Stations.{turn_known, gathered_none, gathered_more, room}
+use Rattle.masks.proofs.Masks.of.Given as goal
+
+abbrev pub invariant-loop-j : goal.invariant-loop-j
+invariant-loop-j l =
+    (l.j ≤ min l.n max_stations) × (l.masks ≡ masks_from l.list (state_of l.vars l.positions l.priorities l.n) l.j)
+
+abbrev pub decreases-loop-j : goal.decreases-loop-j
+decreases-loop-j l = l.j

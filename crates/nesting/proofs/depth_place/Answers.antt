@@ -1,0 +1,48 @@
+-- `nesting::depth_place` meets its contract. The loop's invariant: no more is open than may be, and the place is found from
+-- here on. Assumes nothing.
+use mathlib.Core.Path.{◌≡◌, sym, ◌∙◌}
+use mathlib.Core.Bool.{false, ◌&&◌}
+use Prim.Native.Nat.{◌*◌}
+use native.Mathlib.Omega.{arith}
+use lib.Dec.{leb}
+use lib.ListN.{get_or}
+use borrow.Author.Rules.{rules}
+use Rattle.rules.specs.Names.{max_depth}
+use Rattle.rules.specs.Shape.{opens}
+use Rattle.laws.proofs.Choice.{both}
+use Rattle.nesting.proofs.Open.{deep_start, deep_end, deep_here, deep_on, deep_within}
+use Rattle.nesting.proofs.depth_place.Goals as goal
+use Rattle.nesting.proofs.depth_place.Goals.{
+  Joined-else-opens,
+  else-opens-via-then-opens+else-depth-ge-MAX_DEPTH,
+  else-opens-via-else-opens,
+}
+
+pub loop-at-init : goal.loop-at-init
+loop-at-init c = (omega arith, omega arith, deep_start _)
+
+-- where the test does not refuse
+passed : (c : Joined-else-opens)
+    → (opens (get_or c.args.file.now (8 * c.loop-at.at) 0) && leb max_depth c.loop-at.depth) ≡ false
+passed c =
+    let e = sym c.opens.ensures in
+    elim c.else-opens.branch [
+      | else-opens-via-then-opens+else-depth-ge-MAX_DEPTH w ↦ rw (e ∙ w.if-opens.true) (search rules)
+      | else-opens-via-else-opens w ↦ rw (e ∙ w.if-opens.false)
+    ]
+
+pub returns-then-depth-ge-MAX_DEPTH : goal.returns-then-depth-ge-MAX_DEPTH
+returns-then-depth-ge-MAX_DEPTH c =
+    let deep = both (sym c.opens.ensures ∙ c.if-opens.true) (search rules) in
+    sym (deep_here _ _ _ c.loop-at-test.true c.loop-at.invariant.2 deep)
+
+pub loop-at-preserved : goal.loop-at-preserved
+loop-at-preserved c =
+    rw c.depth_after-depth.ensures (
+      omega arith,
+      deep_within _ _ _ c.loop-at-test.true c.loop-at.invariant.2 c.loop-at.invariant.1 (passed (goal.at.loop-at-preserved c).Joined-else-opens),
+      deep_on _ _ _ c.loop-at-test.true c.loop-at.invariant.2 (passed (goal.at.loop-at-preserved c).Joined-else-opens),
+    )
+
+pub returns : goal.returns
+returns c = sym (deep_end _ _ _ c.loop-at.invariant.2 c.loop-at-test.false)

@@ -1,0 +1,127 @@
+-- `run::begin::start` meets its contract: the first test that refuses decides, and past them the resets are read back from the log.
+-- Assumes nothing.
+use Prim.Native.Nat.{◌*◌, ◌≤◌}
+use mathlib.Core.Path.{◌≡◌, sym, ◌∙◌}
+use mathlib.Core.Bool.{true}
+use native.Mathlib.Omega.{arith}
+use lib.Dec.{leb}
+use lib.ListN.{length, get_or}
+use borrow.Author.Rules.{rules}
+use borrow.Author.Tests.{eq-eqb, ne_eqb, le-leb, lt-ltb, le-ltb, not-true, not-false}
+use Rattle.rules.specs.Words.{each, judge}
+use Rattle.rules.specs.Names.{max_stations, max_kept, kept_length}
+use Rattle.rules.specs.List.{stations, sound_list}
+use Rattle.rules.specs.Start as rules
+use Rattle.rules.specs.Undo.{restarted}
+use Rattle.laws.proofs.Choice.{both}
+use Rattle.laws.proofs.Sound.{few_stations}
+use Rattle.starts.specs.Room.{room}
+use Rattle.starts.proofs.Written.{resets_back}
+use Rattle.run.proofs.begin.start.Goals as goal
+use Rattle.run.proofs.begin.start.Goals.{After-resets_within, After-sound, After-stations-n, After-write, After-write-arg-1, Else-not-resets_within, Else-not-sound, Else-resets-n}
+
+-- past the first test the list is sound
+listed : (c : Else-not-sound) → sound_list c.args.list.now ≡ true
+listed c = sym c.sound.ensures ∙ not-false _ c.if-not-sound.false-raw
+
+-- past the second there are as many resets as stations
+counted : (c : Else-resets-n) → let a = c.args in
+    length a.resets.now ≡ stations a.list.now
+counted c = c.if-resets-n.false ∙ c.stations-n.ensures
+
+-- past the third none is above b
+within : (c : Else-not-resets_within) → let a = c.args in
+    each (λ j. leb (get_or a.resets.now j 0) a.b) (length a.resets.now) ≡ true
+within c = sym c.resets_within.ensures ∙ not-false _ c.if-not-resets_within.false-raw
+
+pub returns-then-not-sound : goal.returns-then-not-sound
+unfolding rules.start judge
+returns-then-not-sound c =
+    rw (c.refused.ensures.0, c.refused.ensures.1, sym c.sound.ensures ∙ not-true _ c.if-not-sound.true-raw)
+
+pub returns-then-resets-n : goal.returns-then-resets-n
+unfolding rules.start judge
+returns-then-resets-n c =
+    let a = c.args in
+    rw (
+      c.refused-then-resets-n.ensures.0,
+      c.refused-then-resets-n.ensures.1,
+      listed (goal.at.returns-then-resets-n c).Else-not-sound,
+      ne_eqb (length a.resets.now) (stations a.list.now) (λ e. c.if-resets-n.true (e ∙ sym c.stations-n.ensures)),
+    )
+
+pub returns-then-not-resets_within : goal.returns-then-not-resets_within
+unfolding rules.start judge
+returns-then-not-resets_within c =
+    rw (
+      c.refused-then-not-resets_within.ensures.0,
+      c.refused-then-not-resets_within.ensures.1,
+      listed (goal.at.returns-then-not-resets_within c).Else-not-sound,
+      eq-eqb _ _ (counted (goal.at.returns-then-not-resets_within c).Else-resets-n),
+      sym c.resets_within.ensures ∙ not-true _ c.if-not-resets_within.true-raw,
+    )
+
+-- there are few stations
+few : (c : Else-resets-n) → let a = c.args in stations a.list.now ≤ max_stations
+few c = few_stations _ (listed ¤Else1¤)
+
+pub overflow_mul-n : goal.overflow_mul-n
+overflow_mul-n c =
+    omega (arith, c.stations-n.ensures, few (goal.at.overflow_mul-n c).Else-resets-n)
+
+pub returns-then-log-n : goal.returns-then-log-n
+unfolding rules.start judge
+returns-then-log-n c =
+    rw (
+      c.refused-then-log-n.ensures.0,
+      c.refused-then-log-n.ensures.1,
+      listed (goal.at.returns-then-log-n c).Else-not-sound,
+      eq-eqb _ _ (counted (goal.at.returns-then-log-n c).Else-resets-n),
+      within (goal.at.returns-then-log-n c).Else-not-resets_within,
+      ← c.stations-n.ensures,
+      lt-ltb _ _ c.if-log-n.true,
+    )
+
+pub returns-then-kept : goal.returns-then-kept
+unfolding rules.start judge
+returns-then-kept c =
+    rw (
+      c.refused-then-kept.ensures.0,
+      c.refused-then-kept.ensures.1,
+      listed (goal.at.returns-then-kept c).Else-not-sound,
+      eq-eqb _ _ (counted (goal.at.returns-then-kept c).Else-resets-n),
+      within (goal.at.returns-then-kept c).Else-not-resets_within,
+      ← c.stations-n.ensures,
+      le-ltb _ _ c.if-log-n.false,
+      lt-ltb _ (kept_length * max_kept) c.if-kept.true,
+    )
+
+-- the start records have their room
+written_there : (c : After-write) → let a = c.args in
+    room (length a.resets.now) a.log.now ≡ true
+written_there c =
+    let a = c.args in
+    rw (counted ¤Else2¤)
+    (both (le-leb (stations a.list.now) max_stations (few ¤Else2¤))
+    (le-leb (2 * stations a.list.now) (length a.log.now) (rw c.stations-n.ensures at c.if-log-n.false)))
+
+pub begun-requires : goal.begun-requires
+begun-requires c =
+    listed (goal.at.begun-requires c).After-sound
+
+pub returns : goal.returns
+unfolding rules.start judge restarted
+returns c =
+    let a = c.before.args in
+    let log = rw (written_there (goal.at.returns c).After-write-arg-1) at c.write.ensures.1 in
+    let begun = rw (log, ← counted (goal.at.returns c).After-stations-n, resets_back a.log.now a.resets.now) at c.begun.ensures in
+    rw (
+      listed (goal.at.returns c).After-sound,
+      eq-eqb _ _ (counted (goal.at.returns c).After-stations-n),
+      within (goal.at.returns c).After-resets_within,
+      ← c.stations.ensures,
+      le-ltb _ _ c.if4.false,
+      le-ltb _ (kept_length * max_kept) c.if5.false,
+      log,
+      begun,
+    )

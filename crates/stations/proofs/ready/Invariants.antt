@@ -1,0 +1,24 @@
+-- `stations::ready` meets its contract. The loop's invariant: the stations passed are filled in. The measure is what is left of them.
+-- Assumes nothing.
+use Prim.Native.Nat.{◌-◌, ◌≤◌, min}
+use mathlib.Core.Path.{◌≡◌, refl, ap, ◌∙◌}
+use mathlib.Core.Bool.{false}
+use native.Mathlib.Omega.{arith}
+use lib.ListN.{replicate}
+use borrow.Author.Rules.{rules}
+use borrow.Author.Tests.{ltb-true, ltb-false}
+use Rattle.rules.specs.Words.{changed}
+use Rattle.rules.specs.Names.{max_stations}
+use Rattle.rules.specs.State.{position_in}
+use Rattle.rules.specs.Ready.{says_ready}
+use Rattle.laws.proofs.Changed.{changed_turn}
+use Rattle.stations.specs.Places.{readiness_by}
+use Rattle.stations.proofs.ready.Given as goal
+
+abbrev pub invariant-loop-j : goal.invariant-loop-j
+invariant-loop-j l =
+    (l.j ≤ min l.n max_stations)
+    × (l.all ≡ changed (λ k was. says_ready (readiness_by l.list l.vars (position_in l.positions k))) l.j (replicate max_stations false))
+
+abbrev pub decreases-loop-j : goal.decreases-loop-j
+decreases-loop-j l = max_stations - l.j

@@ -1,0 +1,75 @@
+-- `stepping::logged` meets its contract: past FULL and ROOM a step is its pick, the pick's record in the log, and the state in its kept place.
+-- Assumes nothing.
+use Prim.Native.Nat.{ℕ, ◌<◌, ◌+◌, ◌*◌, ◌/◌, ◌≤◌}
+use mathlib.Core.Path.{◌≡◌, sym, ◌∙◌}
+use mathlib.Core.Bool.{true, false}
+use native.Mathlib.Omega.{arith}
+use lib.Dec.{leb}
+use mathlib.Core.List.{List}
+use lib.ListN.{length}
+use borrow.Author.Rules.{rules}
+use borrow.Author.Tests.{le-leb, lt-leb, lt-ltb, le-ltb, leb-true, leb-false, not-true, not-false}
+use Rattle.rules.specs.Words.{judge, refusal}
+use Rattle.rules.specs.Names.{max_steps, max_kept, kept_every, kept_length}
+use Rattle.rules.specs.State.{State}
+use Rattle.rules.specs.Lent.{Lent}
+use Rattle.rules.specs.Kept.{kept_offset}
+use Rattle.laws.specs.Parts.{of_parts}
+use Rattle.laws.proofs.Choice.{both}
+use Rattle.keeping.specs.Place.{has_place}
+use Rattle.stepping.specs.Logged.{room_left, logged}
+use Rattle.stepping.proofs.Past.{past_taken, past_refused}
+use Rattle.stepping.proofs.logged.Goals as goal
+
+-- where no test of room refuses, the state after the step has its kept place
+placed : (m : ℕ) (kept : List ℕ) → m < max_steps → kept_length * max_kept ≤ length kept → has_place (m + 1) kept ≡ true
+placed m kept few long =
+    both (le-leb 1 (m + 1) (omega arith))
+    (le-leb (kept_offset ((m + 1) / kept_every) + kept_length) (length kept) (omega (arith, few, long)))
+
+-- and none of them refuses it
+room_there : (s : State) (lent : Lent) → s.m < max_steps → 2 * (s.n + s.m + 1) ≤ length lent.log → kept_length * max_kept ≤ length lent.kept →
+    refusal (room_left s lent) ≡ 0
+unfolding judge
+room_there s lent few room long =
+    rw (lt-leb max_steps s.m few, le-ltb _ _ room, le-ltb _ (kept_length * max_kept) long)
+
+pub returns-then-m-ge-MAX_STEPS : goal.returns-then-m-ge-MAX_STEPS
+unfolding logged judge
+returns-then-m-ge-MAX_STEPS c = rw (le-leb _ _ c.if-m-ge-MAX_STEPS.true)
+
+pub returns-then-not-room : goal.returns-then-not-room
+unfolding logged judge
+returns-then-not-room c =
+    let a = c.args in
+    rw (
+      lt-leb max_steps a.m c.if-m-ge-MAX_STEPS.false,
+      lt-ltb (length a.log.now) (2 * (a.n + a.m + 1)) (leb-false _ _ (sym c.room.ensures ∙ c.if-not-room.true)),
+    )
+
+pub returns-then-kept : goal.returns-then-kept
+unfolding logged judge
+returns-then-kept c =
+    rw (
+      lt-leb max_steps c.args.m c.if-m-ge-MAX_STEPS.false,
+      le-ltb _ _ (leb-true _ _ (sym c.room.ensures ∙ c.if-not-room.false)),
+      lt-ltb _ (kept_length * max_kept) c.if-kept.true,
+    )
+
+pub returns-then-number-eq0 : goal.returns-then-number-eq0
+returns-then-number-eq0 c =
+    let a = c.args in
+    let room = leb-true _ _ (sym c.room.ensures ∙ c.if-not-room.false) in
+    let written = rw (le-leb _ _ room) at c.put.ensures in
+    let keeps = rw (placed a.m a.kept.now c.if-m-ge-MAX_STEPS.false c.if-kept.false) at c.keep.ensures in
+    past_taken _ _ _ _
+    (room_there (of_parts a.vars.now a.positions.now a.priorities.now a.counts.now a.n a.b a.m) (record { log = a.log.now; kept = a.kept.now })
+    c.if-m-ge-MAX_STEPS.false room c.if-kept.false) c.pick-number.ensures c.if-number-eq0.true written keeps
+
+pub returns-else-number-eq0 : goal.returns-else-number-eq0
+returns-else-number-eq0 c =
+    let a = c.args in
+    let room = leb-true _ _ (sym c.room.ensures ∙ c.if-not-room.false) in
+    past_refused _ _ _ _
+    (room_there (of_parts a.vars.now a.positions.now a.priorities.now a.counts.now a.n a.b a.m) (record { log = a.log.now; kept = a.kept.now })
+    c.if-m-ge-MAX_STEPS.false room c.if-kept.false) c.pick-number.ensures c.if-number-eq0.false
