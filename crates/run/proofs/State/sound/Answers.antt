@@ -1,7 +1,6 @@
 -- `run::State::sound` meets its contract: whether a state is sound does not hang on its variables.
 -- Assumes nothing.
 use mathlib.Core.Path.{◌∙◌}
-use borrow.Author.Rules.{rules}
 use Rattle.run.specs.View.{as_state}
 use Rattle.whole.proofs.Clauses.{sound_whatever}
 use Rattle.run.proofs.State.sound.Goals as goal

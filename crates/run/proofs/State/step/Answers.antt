@@ -1,10 +1,8 @@
 -- `run::State::step` meets its contract: the list and the state are tested first.
 -- Assumes nothing.
-use Prim.Native.Nat.{◌<◌}
 use mathlib.Core.Path.{◌≡◌, sym, ◌∙◌}
 use native.Mathlib.Omega.{arith}
-use borrow.Author.Rules.{rules}
-use borrow.Author.Tests.{eq-eqb, ne_eqb, not-true, not-false}
+use borrow.Author.Tests.{eq-eqb, ne_eqb}
 use Rattle.rules.specs.Words.{judge}
 use Rattle.rules.specs.State.{sound_state}
 use Rattle.rules.specs.Step as rules

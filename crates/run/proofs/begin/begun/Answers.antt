@@ -4,7 +4,6 @@ use Prim.Native.Nat.{◌-◌, ◌≤◌, min}
 use mathlib.Core.Path.{◌≡◌}
 use native.Mathlib.Nat.{min-eq_left}
 use native.Mathlib.Omega.{arith}
-use borrow.Author.Rules.{rules}
 use Rattle.rules.specs.Names.{max_stations}
 use Rattle.rules.specs.List.{initials}
 use Rattle.rules.specs.Start.{started}

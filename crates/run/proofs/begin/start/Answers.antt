@@ -1,13 +1,12 @@
 -- `run::begin::start` meets its contract: the first test that refuses decides, and past them the resets are read back from the log.
 -- Assumes nothing.
-use Prim.Native.Nat.{◌*◌, ◌≤◌}
+use Prim.Native.Nat.{◌*◌}
 use mathlib.Core.Path.{◌≡◌, sym, ◌∙◌}
 use mathlib.Core.Bool.{true}
 use native.Mathlib.Omega.{arith}
 use lib.Dec.{leb}
 use lib.ListN.{length, get_or}
-use borrow.Author.Rules.{rules}
-use borrow.Author.Tests.{eq-eqb, ne_eqb, le-leb, lt-ltb, le-ltb, not-true, not-false}
+use borrow.Author.Tests.{eq-eqb, ne_eqb, le-leb, lt-ltb, le-ltb}
 use Rattle.rules.specs.Words.{each, judge}
 use Rattle.rules.specs.Names.{max_stations, max_kept, kept_length}
 use Rattle.rules.specs.List.{stations, sound_list}

@@ -1,6 +1,5 @@
 -- `run::undo::recalled` meets its contract.
 -- Assumes nothing.
-use borrow.Author.Rules.{rules}
 use Rattle.run.proofs.undo.recalled.Goals as goal
 
 pub returns : goal.returns

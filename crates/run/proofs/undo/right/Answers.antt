@@ -2,7 +2,6 @@
 -- Assumes nothing.
 use mathlib.Core.Path.{◌∙◌}
 use native.Mathlib.Omega.{arith}
-use borrow.Author.Rules.{rules}
 use Rattle.usable.proofs.Known.{usable_at}
 use Rattle.run.proofs.Parts.{from_place}
 use Rattle.run.proofs.undo.right.Goals as goal
