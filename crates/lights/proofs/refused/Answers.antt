@@ -1,0 +1,7 @@
+-- `lights::refused` meets its contract.
+-- Assumes nothing.
+use borrow.Author.Rules.{rules}
+use Rattle.lights.proofs.refused.Goals as goal
+
+pub returns : goal.returns
+returns c = rw c.of.ensures
