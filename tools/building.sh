@@ -1,65 +1,61 @@
-# Sourced by the tools that build. `prove` and `prove_library` have rt prove crates, and say on the standard error which are being proved
-# and how many are left after them; what takes less than a second is done in silence. target/TOOL/build.log has all that rt printed. Where
-# something is not built, the tool ends with status 2. `tool` names the tool in what is said, `root` is the folder of the repository.
+# Sourced by the tools that build. `prove_program` has rt prove and build a program, and `prove_library` the panel's library. They say on the
+# standard error which crate is being proved and how many are left after it; what takes less than a second is done in silence.
+# target/TOOL/build.log has all that rt printed. Where something is not built, the tool ends with status 2. `tool` names the tool in what is
+# said, `root` is the folder of the repository.
 
 # Exported for other uses: where else cd looks, and what changes the emulator.
 unset CDPATH "${!QEMU_@}"
 
+if [ "$(uname -m)" != x86_64 ]; then
+    echo "$tool: the Rattle kit and what it builds are for x86-64, which this machine is not" >&2
+    exit 2
+fi
 if ! command -v rt >/dev/null; then
     echo "$tool: there is no rt: install the Rattle kit and put its bin/ on the PATH" >&2
     exit 2
 fi
-kit=${RATTLE_HOME:-$(dirname "$(dirname "$(readlink -f "$(command -v rt)")")")}
-toolchain=$kit/on/$(uname -m)/toolchain
+toolchain=$(dirname "$(dirname "$(readlink -f "$(command -v rt)")")")/toolchain
 
-# What rt proves for the crates named, in its order, a line each, LEVEL:NAME. Crates of one level need nothing of each other.
-plan() { # NAME...
-    awk -v wanted="$*" '
+# What rt proves for a crate, in its order, a line each: what it rests on, and then itself.
+plan() { # NAME
+    awk -v wanted="$1" '
         function visit(name,    needed, count, i) {
-            if (name in level || !(name in needs)) return
-            level[name] = 0
+            if (name in seen || !(name in needs)) return
+            seen[name] = 1
             count = split(needs[name], needed, " ")
-            for (i = 1; i <= count; i++) {
-                visit(needed[i])
-                if (needed[i] in level && level[needed[i]] >= level[name]) level[name] = level[needed[i]] + 1
-            }
-            print level[name] ":" name
+            for (i = 1; i <= count; i++) visit(needed[i])
+            print name
         }
         { sub(/#.*/, "") }
-        split($0, part, ":") == 2 { gsub(/[ \t]/, "", part[1]); needs[part[1]] = part[2] }
-        END { count = split(wanted, name, " "); for (i = 1; i <= count; i++) visit(name[i]) }
-    ' "$root/crates.txt" | sort -s -t: -n -k1,1
+        split($0, part, ":") == 2 { split(part[1], word, " "); needs[word[1]] = part[2] }
+        END { visit(wanted) }
+    ' "$root/crates.txt"
 }
 
-# Reads what rt prints while it proves the crates named. Once a second has passed without a line it says what rt is at: the first crates of
-# the plan that are still to come, of one level and at most as many as rt proves side by side. On a terminal the line is written over.
-follow() { # NAME...
-    local -a todo names
-    local jobs line part='' level item text said='' began=$SECONDS
-    local ended='^rt: ([^ ]+) (proved|NOT PROVED)'
-    jobs=$(nproc)
-    jobs=${RT_JOBS:-$((jobs < 4 ? jobs : 4))}
-    mapfile -t todo < <(plan "$@")
+# Reads what rt prints while it proves a crate. Once a second has passed without a line it says what rt is at: the first crate of the plan that is
+# still to come. Where rt names a crate, those before it stand; until it names one, it sees which stand. On a terminal the line is written over.
+follow() { # NAME
+    local -a todo
+    local line part='' named='' text said='' began=$SECONDS
+    local names='^(rt: chose --jobs [0-9]+ for|crate) ([^ :]+)(: modules .*)?$'
+    mapfile -t todo < <(plan "$1")
     while :; do
         if IFS= read -r -t 1 line; then
             line=$part$line part=''
-            [[ $line =~ $ended ]] || continue
-            for item in "${!todo[@]}"; do
-                [ "${todo[item]#*:}" != "${BASH_REMATCH[1]}" ] || unset "todo[item]"
-            done
+            if [[ $line =~ $names ]] && [[ " ${todo[*]} " == *" ${BASH_REMATCH[2]} "* ]]; then
+                named=${BASH_REMATCH[2]}
+                while [ "${todo[0]}" != "$named" ]; do todo=("${todo[@]:1}"); done
+            elif [[ $line == logic=proved* && ${todo[0]-} == "$named" ]]; then
+                todo=("${todo[@]:1}")
+            fi
             continue
         elif [ $? -le 128 ]; then
             break
         fi
-        part+=$line names=() level=''
-        for item in "${todo[@]}"; do
-            level=${level:-${item%%:*}}
-            if [ "${item%%:*}" != "$level" ] || [ ${#names[@]} -ge "$jobs" ]; then break; fi
-            names+=("${item#*:}")
-        done
-        [ ${#names[@]} -gt 0 ] || continue
-        printf -v text '%s, ' "${names[@]}"
-        text="$tool: proving ${text%, }; $((${#todo[@]} - ${#names[@]})) left"
+        part+=$line
+        [ ${#todo[@]} -gt 0 ] || continue
+        text="$tool: seeing what is to be proved"
+        [ -z "$named" ] || text="$tool: proving ${todo[0]}; $((${#todo[@]} - 1)) left"
         if [ -t 2 ]; then
             printf '\r%-78s' "$text ($((SECONDS - began)) s)" >&2
         elif [ "$text" != "$said" ]; then
@@ -70,34 +66,40 @@ follow() { # NAME...
     if [ -n "$said" ] && [ -t 2 ]; then printf '\r%78s\r' '' >&2; fi
 }
 
-# Runs a command of rt's for the crates named, when no other tool is building: two at once undo each other's work.
-build() { # CRATES COMMAND...
-    local crates=$1 log=$root/target/$tool/build.log failed
+# Runs what builds a crate, when no other tool is building: rt would wait for it, and say nothing of what is proved meanwhile.
+build() { # NAME COMMAND...
+    local name=$1 log=$root/target/$tool/build.log failed
     shift
     mkdir -p "$root/target/$tool" || exit 2
     {
         flock -w 5 9 || { echo "$tool: waiting for another tool that is building" >&2; flock 9; }
-        # shellcheck disable=SC2086
-        (cd "$root" && "$@") 2>&1 </dev/null 9>&- | tee "$log" | follow $crates && return
+        (cd "$root" && "$@") 2>&1 </dev/null 9>&- | tee "$log" | follow "$name" && return
     } 9>"$root/target/lock"
-    failed=$(sed -n '/^rt: .* NOT PROVED/ { s/^rt: \([^ ]*\) .*/\1 is not proved/p; q }' "$log")
+    failed=$(awk '
+        /^rt: chose --jobs [0-9]+ for / { name = $NF }
+        /^crate [^ ]+: modules / { name = $2; sub(/:$/, "", name) }
+        /^logic=proved/ { name = "" }
+        /^logic=not-proved/ { exit }
+        END { if (name != "") print name " is not proved" }
+    ' "$log")
     echo "$tool: not built: ${failed:-rt failed}. The whole log is $log; there it says:" >&2
     # The last lines up to the first crate that failed, without those that tell of no failure.
-    sed '/^rt: .* NOT PROVED/ q' "$log" | grep -v '^rt: .* proved (\|^fn .*: proved$\|^library \|^logic \|^note: ' | tail -n 5 >&2 || :
+    sed '/^logic=not-proved/ q' "$log" |
+        grep -v '^[a-z]* [^ ]*: proved$\|^\(crate\|library\|statements\|logic\|axioms\) \|^\(logic\|only\)=\|^\(note\|so far\): \|^rt: \(chose\|rt\) ' |
+        tail -n 5 >&2 || :
     exit 2
 }
 
-# Proves the crates named.
-prove() { build "$*" rt check "$@"; }
+# Proves a program and builds it: crates/NAME/out/NAME. rt then runs it, in the crate's folder, where there is nothing that it could read.
+prove_program() { build "$1" program "$1"; }
 
-# Proves the panel's library and writes target/staticlib/libpanel.a. What it rests on is proved first, side by side; rt staticlib alone
-# would prove one crate after the other.
-prove_library() { build panel staticlib panel; }
+program() { # NAME
+    cd "crates/$1" && rt run
+}
 
-staticlib() { # NAME
-    local needed
-    needed=$(plan "$1" | sed 's/.*://' | grep -vx "$1")
-    # shellcheck disable=SC2086
-    rt check $needed || return
-    rt staticlib "$1" || { echo "rt: $1 NOT PROVED, or not compiled"; return 1; }
+# Proves the panel's library and writes target/staticlib/libpanel.a.
+prove_library() { build panel_c library; }
+
+library() {
+    (cd crates/panel_c && rt lib) && mkdir -p target/staticlib && cp crates/panel_c/out/libpanel_c.a target/staticlib/libpanel.a
 }

@@ -4,11 +4,8 @@
 [ -d "$folder" ] || { echo "$tool: there is no folder $folder" >&2; exit 2; }
 case $folder in /*) ;; *) folder=$PWD/$folder ;; esac
 . "$root/tools/building.sh"
-prove "$tool"
+prove_program "$tool"
 
-program=("$root/target/bin/$tool")
-[ -x "${program[0]}" ] || { echo "$tool: ${program[0]} is gone: remove $root/target, then try again" >&2; exit 2; }
-if [ "$(uname -m)" != x86_64 ]; then
-    program=("$toolchain/bin/qemu-x86_64" "$toolchain/lib/ld-linux-x86-64.so.2" --library-path "$toolchain/lib" "${program[@]}")
-fi
+program=("$root/crates/$tool/out/$tool")
+[ -x "${program[0]}" ] || { echo "$tool: ${program[0]} is gone: remove $root/crates/$tool/out, then try again" >&2; exit 2; }
 cd "$folder" || exit 2
