@@ -22,11 +22,11 @@ returns-then-told-eq-ENDED c =
 
 pub of_waiting-requires : goal.of_waiting-requires
 of_waiting-requires c =
-    rw (← place (goal.at.of_waiting-requires c).After-readiness-told) at (second_fits _ _ _ (sym (number (goal.at.of_waiting-requires c).After-readiness-told) ∙ c.if2.true))
+    rw (← place (goal.at.of_waiting-requires c).After-readiness-told) at (second_fits _ _ _ (sym (number (goal.at.of_waiting-requires c).After-readiness-told) ∙ c.if-told-eq-NOT_READY.true))
 
 pub returns-then-told-eq-NOT_READY : goal.returns-then-told-eq-NOT_READY
 returns-then-told-eq-NOT_READY c =
-    c.said-then-told-eq-NOT_READY.ensures ∙ ap said (rw (place (goal.at.returns-then-told-eq-NOT_READY c).After-readiness-told) at c.of_waiting.ensures) ∙ waiting_said _ _ _ (sym (number (goal.at.returns-then-told-eq-NOT_READY c).After-readiness-told) ∙ c.if2.true)
+    c.said-then-told-eq-NOT_READY.ensures ∙ ap said (rw (place (goal.at.returns-then-told-eq-NOT_READY c).After-readiness-told) at c.of_waiting.ensures) ∙ waiting_said _ _ _ (sym (number (goal.at.returns-then-told-eq-NOT_READY c).After-readiness-told) ∙ c.if-told-eq-NOT_READY.true)
 
 pub returns-then-told-ne0 : goal.returns-then-told-ne0
 returns-then-told-ne0 c =
@@ -36,4 +36,4 @@ returns-then-told-ne0 c =
 
 pub returns : goal.returns
 returns c =
-    c.said-2.ensures ∙ ready_said _ _ _ (sym (number (goal.at.returns c).After-readiness-told) ∙ c.if3.false) c.ready-all.ensures c.of_ready.ensures
+    c.said-2.ensures ∙ ready_said _ _ _ (sym (number (goal.at.returns c).After-readiness-told) ∙ c.if-told-ne0.false) c.ready-all.ensures c.of_ready.ensures

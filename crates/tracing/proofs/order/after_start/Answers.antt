@@ -1,0 +1,10 @@
+-- `tracing::order::after_start` meets its contract. Assumes nothing.
+use mathlib.Core.Path.{sym, ◌∙◌}
+use borrow.Author.Rules.{rules}
+use Rattle.tracing.proofs.order.after_start.Goals as goal
+
+pub returns-then-wrong : goal.returns-then-wrong
+returns-then-wrong c = rw (sym c.wrong.ensures ∙ c.if-wrong.true)
+
+pub returns : goal.returns
+returns c = rw (sym c.wrong.ensures ∙ c.if-wrong.false)
