@@ -1,7 +1,8 @@
 // What the programs over a folder share: a file is read, and a text is written.
 #![tactic(auto)]
 
-ghost use Rattle.std.specs.Prelude.{◌≤◌, length};
+ghost use Rattle.std.specs.Prelude.{◌≤◌, length, take};
+ghost use Rattle.std.specs.Io.KnownBytes.{Consumes};
 
 use std::fs::File;
 use std::io::Read;
@@ -21,9 +22,11 @@ pub fn read(rt: &impl Files, path: &[u8], buffer: &mut [u8]) -> usize
     }
 }
 
-// Reads until the buffer is full, the reader ends or a read fails, and answers how many bytes came.
-pub fn fill(reader: &mut impl Read, buffer: &mut [u8]) -> usize
-    ensures { result ≤ length buffer.new }
+// Reads until the buffer is full, the reader ends or a read fails, and answers how many bytes came. They stand at the buffer's front, as the
+// reader gave them, and it has given no others.
+pub fn fill<F: Read>(reader: &mut F, buffer: &mut [u8]) -> usize
+    ensures in_bounds { result ≤ length buffer.new }
+    ensures bytes { Consumes (F.remaining reader.old) (F.remaining reader.new) (take result buffer.new) }
 {
     let mut done: usize = 0;
     while done < buffer.len() {
