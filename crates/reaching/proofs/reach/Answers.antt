@@ -19,7 +19,7 @@ loop-text-init c = ((refl, refl), rw c.empty-text.ensures)
 pub loop-text-smaller : goal.loop-text-smaller
 loop-text-smaller c =
     let a = c.args in
-    let lent : Lent = record { log = c.loop-text.log; kept = c.loop-text.auto } in
+    let lent : Lent = record { log = c.loop-text.log; kept = c.loop-text.kept } in
     let more = sym c.done.ensures ∙ not-true _ c.loop-text-test.true-raw in
     left_falls a.list.now a.picks.now lent (as_tracing c.loop-text.tracer) more c.next-printed.ensures
 
@@ -28,9 +28,9 @@ loop-text-preserved c =
     let a = c.args in
     let inv = c.loop-text.invariant in
     let text = text_of c.loop-text.text in
-    let lent : Lent = record { log = c.loop-text.log; kept = c.loop-text.auto } in
+    let lent : Lent = record { log = c.loop-text.log; kept = c.loop-text.kept } in
     let more = sym c.done.ensures ∙ not-true _ c.loop-text-test.true-raw in (
-      (c.next-printed.auto.1.1.0 ∙ inv.0.0, c.next-printed.auto.1.1.1.0 ∙ inv.0.1),
+      (c.next-printed.auto.log ∙ inv.0.0, c.next-printed.auto.kept ∙ inv.0.1),
       same_after text a.list.now a.picks.now lent (as_tracing c.loop-text.tracer) more c.next-printed.ensures ∙ inv.1,
     )
 
@@ -44,6 +44,6 @@ pub returns : goal.returns
 returns c =
     let a = c.args in
     let text = text_of c.loop-text.text in
-    let lent : Lent = record { log = c.loop-text.log; kept = c.loop-text.auto } in
+    let lent : Lent = record { log = c.loop-text.log; kept = c.loop-text.kept } in
     let all = sym c.done.ensures ∙ not-false _ c.loop-text-test.false-raw in
     sym (come text a.list.now a.picks.now lent (as_tracing c.loop-text.tracer) all) ∙ c.loop-text.invariant.1
