@@ -1,5 +1,6 @@
 -- Reading statements from their last record to their first lays out the records that the rules say, and leaves what is open around them
 -- as it was. By induction on the statements. Assumes nothing.
+use Rattle.std.specs.Prelude.{if◌then◌else◌}
 use mathlib.Core.Path.{◌≡◌, refl, sym, ap, ◌∙◌}
 use mathlib.Core.Bool.{Bool, true, false}
 use mathlib.Core.List.{List, [], ◌∷◌, ◌++◌}
@@ -10,7 +11,7 @@ use lib.Dec.{eqb, ltb}
 use lib.ListN.{length, get_or, length-set, length-append}
 use lib.Seq.{get_or-set_same, get_or-set_other, get_or-append_seam}
 use borrow.Author.Tests.{lt-ltb}
-use Rattle.rules.specs.Words.{if◌then◌else◌, written}
+use Rattle.rules.specs.Words.{written}
 use Rattle.rules.specs.Names.{SKIP, SET, IF, ELSE, FI, WHILE, OD, AWAIT, END, no_station}
 use Rattle.rules.specs.Records.{Record, ListRecord}
 use Rattle.rules.specs.Trees.{Statements, nothing, skip, assign, branch, loop, await, size}

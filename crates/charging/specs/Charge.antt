@@ -1,7 +1,6 @@
 -- FAIR's charge of a priority of 16 bits, and a count of as many. These are definitions.
-use Rattle.std.specs.Prelude.{ℕ, suc, Bool, false, List, leb, get_or, ℤ, pos, neg_ℤ, ◌-ℤ◌}
+use Rattle.std.specs.Prelude.{ℕ, suc, Bool, false, List, leb, get_or, ℤ, pos, neg_ℤ, ◌-ℤ◌, if◌then◌else◌}
 use Rattle.std.specs.Int.Signed.{le_z}
-use Rattle.rules.specs.Words.{if◌then◌else◌}
 
 -- one less, as far as 16 bits go
 abbrev pub lowered : ℤ → ℤ

@@ -2,8 +2,8 @@
 // A priority that is as low as 16 bits go stays where it would lose 1, and a count that is as high as they go where it would gain 1.
 #![tactic(auto)]
 
-ghost use Rattle.std.specs.Prelude.{◌≡◌, false, eqb, get_or};
-ghost use Rattle.rules.specs.Words.{if◌then◌else◌, changed};
+ghost use Rattle.std.specs.Prelude.{◌≡◌, false, eqb, get_or, if◌then◌else◌};
+ghost use Rattle.rules.specs.Words.{changed};
 ghost use Rattle.rules.specs.Names.{max_stations};
 ghost use Rattle.charging.specs.Charge.{lowered, held_charge, counted_on, held_count, unpicked, passed};
 

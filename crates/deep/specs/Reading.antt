@@ -1,6 +1,5 @@
 -- Reading a part of a written sequence on the kinds of its records. These are definitions.
-use Rattle.std.specs.Prelude.{ℕ, ◌+◌, ◌*◌, Bool, false, List, [], ◌∷◌, leb, length}
-use Rattle.rules.specs.Words.{if◌then◌else◌}
+use Rattle.std.specs.Prelude.{ℕ, ◌+◌, ◌*◌, Bool, false, List, [], ◌∷◌, leb, length, if◌then◌else◌}
 use Rattle.rules.specs.Names.{max_records}
 use Rattle.rules.specs.Check.{kinds}
 use Rattle.parts.specs.declared.Part.{Part}

@@ -1,4 +1,5 @@
 -- The order of the tests, call by call, and what a refusal leaves. Assumes nothing.
+use Rattle.std.specs.Prelude.{if◌then◌else◌}
 use mathlib.Core.Path.{◌≡◌, refl, sym, ap, ◌∙◌}
 use mathlib.Core.Logic.{◌≢◌}
 use mathlib.Core.Bool.{Bool, true, false}
@@ -7,7 +8,7 @@ use Prim.Native.Nat.{ℕ, ◌*◌}
 use lib.Dec.{eqb, ltb}
 use lib.ListN.{length}
 use borrow.Author.Tests.{eqb-true, eqb-false, ne_eqb}
-use Rattle.rules.specs.Words.{if◌then◌else◌, Answer, Test, ◌refuses◌at◌, judge, refusal}
+use Rattle.rules.specs.Words.{Answer, Test, ◌refuses◌at◌, judge, refusal}
 use Rattle.rules.specs.Names.{ROOM}
 use Rattle.rules.specs.Check.{check, check_tests}
 use Rattle.rules.specs.Build.{list_records, room_tests, build_tests, build}

@@ -1,7 +1,6 @@
 -- What BUILD, START, STEP and UNDO do where they are not refused, of any seven calls, on any list that is sound. These are definitions and
 -- claims, and proofs/Does.antt shows the claims of the rules' calls.
-use Rattle.std.specs.Prelude.{◌≡◌, ◌↔◌, List, ℕ, ◌+◌, ◌*◌, ◌≤◌, ◌<◌, eqb, length, take, drop, get_or, replicate, pos}
-use Rattle.rules.specs.Words.{if◌then◌else◌}
+use Rattle.std.specs.Prelude.{◌≡◌, ◌↔◌, List, ℕ, ◌+◌, ◌*◌, ◌≤◌, ◌<◌, eqb, length, take, drop, get_or, replicate, pos, if◌then◌else◌}
 use Rattle.rules.specs.Names.{variables}
 use Rattle.rules.specs.Records.{list_record_at, Pick}
 use Rattle.rules.specs.Build.{Built, list_records}

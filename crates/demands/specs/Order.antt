@@ -1,7 +1,7 @@
 -- Demand 1, of any seven calls: the numbers of each call, and the order in which they are tested, written out once more as a chain of
 -- choices; and what a refusal leaves. These are claims, and proofs/Order.antt shows them of the rules' calls.
-use Rattle.std.specs.Prelude.{◌≡◌, ◌↔◌, ◌≢◌, ◌&&◌, not, List, [], ◌∷◌, ℕ, ◌+◌, ◌*◌, ◌%◌, ◌<◌, eqb, leb, ltb, length}
-use Rattle.rules.specs.Words.{if◌then◌else◌, first, answer}
+use Rattle.std.specs.Prelude.{◌≡◌, ◌↔◌, ◌≢◌, ◌&&◌, not, List, [], ◌∷◌, ℕ, ◌+◌, ◌*◌, ◌%◌, ◌<◌, eqb, leb, ltb, length, if◌then◌else◌}
+use Rattle.rules.specs.Words.{first, answer}
 use Rattle.rules.specs.Names.{SHAPE, DEPTH}
 use Rattle.rules.specs.Records.{record_count, Pick}
 use Rattle.rules.specs.Shape.{well_shaped, shape_place}

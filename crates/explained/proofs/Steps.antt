@@ -1,4 +1,5 @@
 -- What STEP answers of a station, by the reason that is given of it. Assumes nothing.
+use Rattle.std.specs.Prelude.{if◌then◌else◌}
 use mathlib.Core.Path.{◌≡◌, refl, sym, ap, ◌∙◌}
 use mathlib.Core.Bool.{Bool, true, false, not}
 use mathlib.Core.List.{List, [], ◌∷◌}
@@ -7,7 +8,7 @@ use native.Mathlib.Omega.{arith}
 use borrow.Author.Tests.{le-ltb}
 use lib.Dec.{eqb, ltb}
 use lib.ListN.{replicate, length-replicate}
-use Rattle.rules.specs.Words.{if◌then◌else◌, ◌refuses◌at◌, judge, refusal}
+use Rattle.rules.specs.Words.{◌refuses◌at◌, judge, refusal}
 use Rattle.rules.specs.Names.{TURN, RESET, max_kept, kept_length}
 use Rattle.rules.specs.Records.{Pick, list_record_at}
 use Rattle.rules.specs.State.{State}

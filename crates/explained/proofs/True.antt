@@ -1,4 +1,5 @@
 -- Each reason is given exactly where it is the true one, and no other program answers so. Assumes nothing.
+use Rattle.std.specs.Prelude.{if◌then◌else◌}
 use mathlib.Core.Path.{◌≡◌, refl, sym, ap, ◌∙◌}
 use mathlib.Core.Logic.{◌↔◌}
 use mathlib.Core.Bool.{true, false, false≢true}
@@ -9,7 +10,7 @@ use borrow.Author.Tests.{lt-ltb, le-ltb, ltb-true, ltb-false, leb-true, leb-fals
 use lib.Dec.{eqb, leb, ltb}
 use lib.ListN.{get_or}
 use lib.Signed.{le_z}
-use Rattle.rules.specs.Words.{if◌then◌else◌, first, judge}
+use Rattle.rules.specs.Words.{first, judge}
 use Rattle.rules.specs.Names.{COMPONENT, NOT_READY, TURN, ENDED}
 use Rattle.rules.specs.List.{sound_list}
 use Rattle.rules.specs.State.{State, priority, sound_state}

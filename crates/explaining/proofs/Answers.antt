@@ -1,4 +1,5 @@
 -- What `why` answers, by what the station's readiness tells. Assumes nothing.
+use Rattle.std.specs.Prelude.{if◌then◌else◌}
 use mathlib.Core.Path.{◌≡◌, refl, sym, ap, ◌∙◌}
 use mathlib.Core.Logic.{◌≢◌, ◌⊎◌, inl, inr, ⊎_elim}
 use mathlib.Core.Bool.{Bool, true, false, ◌&&◌, false≢true}
@@ -9,7 +10,7 @@ use native.Mathlib.Omega.{arith}
 use borrow.Author.Tests.{eqb-true, eqb-false, leb-true, leb-false}
 use lib.Dec.{eqb, leb}
 use lib.ListN.{get_or, replicate}
-use Rattle.rules.specs.Words.{if◌then◌else◌, among, first, changed, Answer, answer, refusal}
+use Rattle.rules.specs.Words.{among, first, changed, Answer, answer, refusal}
 use Rattle.rules.specs.Names.{LIST, STATE, NOT_READY, ENDED, max_stations}
 use Rattle.rules.specs.Records.{list_record_at}
 use Rattle.rules.specs.State.{State, position, priority}

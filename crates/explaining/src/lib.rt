@@ -1,8 +1,8 @@
 // What a panel asks of a station that was not picked: why not, of any list and any state whatever.
 #![tactic(auto)]
 
-ghost use Rattle.std.specs.Prelude.{◌≡◌, false, ◌&&◌, ◌≤◌, ◌<◌, get_or};
-ghost use Rattle.rules.specs.Words.{if◌then◌else◌, first};
+ghost use Rattle.std.specs.Prelude.{◌≡◌, false, ◌&&◌, ◌≤◌, ◌<◌, get_or, if◌then◌else◌};
+ghost use Rattle.rules.specs.Words.{first};
 ghost use Rattle.rules.specs.Records.{list_record_at};
 ghost use Rattle.rules.specs.State.{priority_in};
 ghost use Rattle.rules.specs.Turn.{lowest_of};

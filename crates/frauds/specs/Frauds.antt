@@ -1,9 +1,9 @@
 -- Wrong programs, each by what its calls are like, and that the demands shut them out. What a fraud answers is said where it refuses nothing,
 -- unless its point is refusing, or it is the same where the rules refuse. These are definitions and claims: proofs/Frauds.antt and
 -- proofs/Waiting.antt show the claims.
-use Rattle.std.specs.Prelude.{◌≡◌, ◌≢◌, true, false, not, List, [], ◌∷◌, ◌++◌, ℕ, suc, ◌+◌, ◌*◌, ◌/◌, ◌%◌, ◌≤◌, ◌<◌, eqb, length, take, get_or, ℤ}
+use Rattle.std.specs.Prelude.{◌≡◌, ◌≢◌, true, false, not, List, [], ◌∷◌, ◌++◌, ℕ, suc, ◌+◌, ◌*◌, ◌/◌, ◌%◌, ◌≤◌, ◌<◌, eqb, length, take, get_or, ℤ, if◌then◌else◌}
 use Rattle.std.proofs.Math.Option.{some}
-use Rattle.rules.specs.Words.{if◌then◌else◌, changed, written, Answer}
+use Rattle.rules.specs.Words.{changed, written, Answer}
 use Rattle.rules.specs.Names.{LENGTH, LIST, ENDED, variables, kept_every}
 use Rattle.rules.specs.Records.{Pick, pick_at}
 use Rattle.rules.specs.State.{State, zeros, priority, count}

@@ -1,7 +1,6 @@
 -- What SHAPE says of a file's kinds, by the grammar alone, and what DEPTH counts: the parts that SHAPE's walk holds open.
 -- These are definitions.
-use Rattle.std.specs.Prelude.{ℕ, suc, ◌<◌, ◌≡◌, Bool, false, ◌&&◌, not, List, [], ◌∷◌, eqb, leb, ltb, length, get_or, take}
-use Rattle.rules.specs.Words.{if◌then◌else◌}
+use Rattle.std.specs.Prelude.{ℕ, suc, ◌<◌, ◌≡◌, Bool, false, ◌&&◌, not, List, [], ◌∷◌, eqb, leb, ltb, length, get_or, take, if◌then◌else◌}
 use Rattle.rules.specs.Names.{STATION, max_depth, max_stations}
 use Rattle.rules.specs.Records.{record_count}
 use Rattle.rules.specs.Shape.{Part, Stand, initial, within, wrong, walked, opens}

@@ -1,5 +1,6 @@
 -- What every history keeps: the last state answered is the top of the stack, START and STEP made the stack, the log opens with its records,
 -- and the kept places up to the steps that stand hold its states. Assumes nothing.
+use Rattle.std.specs.Prelude.{if◌then◌else◌}
 use mathlib.Core.Path.{◌≡◌, refl, sym, ap, subst, ◌∙◌}
 use mathlib.Core.List.{List, [], ◌∷◌, ◌++◌, append_assoc}
 use mathlib.Core.Option.{Option, none, some}
@@ -8,7 +9,7 @@ use native.Mathlib.Omega.{arith}
 use borrow.Author.Tests.{eqb-true}
 use lib.Dec.{eqb}
 use lib.ListN.{length, drop}
-use Rattle.rules.specs.Words.{if◌then◌else◌, written}
+use Rattle.rules.specs.Words.{written}
 use Rattle.rules.specs.Names.{kept_every}
 use Rattle.rules.specs.Records.{Pick, pick_at, pick_bytes}
 use Rattle.rules.specs.State.{State}

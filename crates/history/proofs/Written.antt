@@ -1,4 +1,5 @@
 -- What each call writes into the log, and where. Assumes nothing.
+use Rattle.std.specs.Prelude.{if◌then◌else◌}
 use mathlib.Core.Path.{◌≡◌, refl, sym, ap, ◌∙◌}
 use mathlib.Core.List.{List, [], ◌++◌}
 use Prim.Native.Nat.{ℕ, zero, suc, ◌+◌, ◌*◌, ◌≤◌, min, ◌/◌}
@@ -7,7 +8,7 @@ use borrow.Author.Tests.{eqb-true}
 use lib.Dec.{eqb}
 use lib.ListN.{length, take, drop}
 use lib.Seq.{drop-cons}
-use Rattle.rules.specs.Words.{if◌then◌else◌, refusal, written}
+use Rattle.rules.specs.Words.{refusal, written}
 use Rattle.rules.specs.Records.{Pick, pick_at, pick_bytes}
 use Rattle.rules.specs.State.{State}
 use Rattle.rules.specs.Lent.{Lent}

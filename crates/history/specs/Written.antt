@@ -1,6 +1,6 @@
 -- What each call writes into the log, and where. These are claims, and proofs/Written.antt shows them.
-use Rattle.std.specs.Prelude.{◌≡◌, List, [], ℕ, ◌+◌, ◌*◌, eqb, length, take}
-use Rattle.rules.specs.Words.{if◌then◌else◌, written}
+use Rattle.std.specs.Prelude.{◌≡◌, List, [], ℕ, ◌+◌, ◌*◌, eqb, length, take, if◌then◌else◌}
+use Rattle.rules.specs.Words.{written}
 use Rattle.rules.specs.Records.{pick_bytes}
 use Rattle.rules.specs.Start.{start_records}
 use Rattle.rules.specs.Calls.{Seven}

@@ -1,4 +1,5 @@
 -- Bytes put into a kept place one part after another, until it holds a state, and the buffer with that place in it. Assumes nothing.
+use Rattle.std.specs.Prelude.{if◌then◌else◌}
 use mathlib.Core.Path.{◌≡◌, refl, sym, ◌∙◌}
 use mathlib.Core.Bool.{Bool, true, false}
 use mathlib.Core.List.{List, [], ◌∷◌, ◌++◌, append_assoc, append-nil}
@@ -9,7 +10,7 @@ use native.Mathlib.Omega.{arith}
 use lib.Dec.{eqb}
 use lib.ListN.{length, get_or, take, drop, set, replicate, length-append, length-replicate, replicate-append-replicate}
 use lib.Seq.{take-suc, length-take-le, drop-length, drop-drop}
-use Rattle.rules.specs.Words.{if◌then◌else◌, joined, written}
+use Rattle.rules.specs.Words.{joined, written}
 use Rattle.rules.specs.Names.{variables, max_stations, kept_every, kept_length}
 use Rattle.rules.specs.State.{State}
 use Rattle.rules.specs.Kept.{kept_offset, in_two, in_four, raised, encoded, keep}

@@ -1,8 +1,8 @@
 // Whole run states put into their kept places, over any buffer and any state whatever. docs/KEPT.md gives the bytes of a kept place.
 #![tactic(auto)]
 
-ghost use Rattle.std.specs.Prelude.{◌≡◌, ◌++◌, ◌∷◌, ◌+◌, ◌*◌, ◌≤◌, length, replicate};
-ghost use Rattle.rules.specs.Words.{if◌then◌else◌, joined, written};
+ghost use Rattle.std.specs.Prelude.{◌≡◌, ◌++◌, ◌∷◌, ◌+◌, ◌*◌, ◌≤◌, length, replicate, if◌then◌else◌};
+ghost use Rattle.rules.specs.Words.{joined, written};
 ghost use Rattle.rules.specs.Names.{kept_length};
 ghost use Rattle.rules.specs.Kept.{in_two, in_four, raised, encoded, keep};
 ghost use Rattle.laws.specs.Parts.{of_parts};

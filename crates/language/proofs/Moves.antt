@@ -1,4 +1,5 @@
 -- Where an outside record and what remains there match, the record's step is the program's transition. Assumes nothing.
+use Rattle.std.specs.Prelude.{if◌then◌else◌}
 use mathlib.Core.Path.{◌≡◌, refl, sym, ap, ◌∙◌}
 use mathlib.Core.Logic.{◌≢◌}
 use mathlib.Core.Bool.{Bool, true, false}
@@ -6,7 +7,7 @@ use mathlib.Core.List.{List, [], ◌∷◌}
 use Prim.Native.Nat.{ℕ}
 use native.Mathlib.Omega.{arith}
 use lib.Dec.{eqb}
-use Rattle.rules.specs.Words.{if◌then◌else◌, among}
+use Rattle.rules.specs.Words.{among}
 use Rattle.rules.specs.Names.{SKIP, SET, IF, WHILE, AWAIT, STOP}
 use Rattle.rules.specs.Records.{ListRecord, list_count}
 use Rattle.rules.specs.Values.{assigned, holds}

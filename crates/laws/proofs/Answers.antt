@@ -1,11 +1,12 @@
 -- What each call answers: the number is that of the first test that refuses; taken, it answers this, and refused, that. Assumes nothing.
+use Rattle.std.specs.Prelude.{if◌then◌else◌}
 use mathlib.Core.Path.{◌≡◌, refl, sym, ap, ◌∙◌}
 use mathlib.Core.Bool.{false}
 use mathlib.Core.List.{List}
 use Prim.Native.Nat.{ℕ}
 use borrow.Author.Tests.{eq-eqb, ne_eqb}
 use lib.Dec.{eqb}
-use Rattle.rules.specs.Words.{if◌then◌else◌, Answer, judge, refusal}
+use Rattle.rules.specs.Words.{Answer, judge, refusal}
 use Rattle.rules.specs.Names.{LOG}
 use Rattle.rules.specs.Records.{Pick}
 use Rattle.rules.specs.Build.{Built, build_tests, build}

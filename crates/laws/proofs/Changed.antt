@@ -1,4 +1,5 @@
 -- A list whose first n entries are changed by their place. Assumes nothing.
+use Rattle.std.specs.Prelude.{if◌then◌else◌}
 use mathlib.Core.Path.{◌≡◌, refl, ap}
 use mathlib.Core.List.{List, [], ◌∷◌}
 use Prim.Native.Nat.{ℕ, zero, suc, ◌+◌, ◌≤◌, ◌<◌}
@@ -7,7 +8,7 @@ use native.Mathlib.Numerals.{add-one}
 use native.Mathlib.Omega.{arith}
 use lib.Dec.{eqb, eqb-zero-suc, eqb-suc-zero, eqb-suc-suc}
 use lib.ListN.{length, get_or, set}
-use Rattle.rules.specs.Words.{if◌then◌else◌, changed}
+use Rattle.rules.specs.Words.{changed}
 
 module _ {A : Type 0} where
   pub length_changed : (f : ℕ → A → A) (n : ℕ) (xs : List A) → length (changed f n xs) ≡ length xs

@@ -1,7 +1,7 @@
 -- A choice by a test, and both answers of a test at once. Assumes nothing.
+use Rattle.std.specs.Prelude.{if◌then◌else◌}
 use mathlib.Core.Path.{◌≡◌, refl, ◌∙◌}
 use mathlib.Core.Bool.{Bool, true, false, ◌&&◌, ◌||◌, true≢false}
-use Rattle.rules.specs.Words.{if◌then◌else◌}
 
 -- to show something, show it where the test holds and where it fails
 pub by_test {ℓ} : {X : Type ℓ} (b : Bool) → (b ≡ true → X) → (b ≡ false → X) → X

@@ -1,4 +1,5 @@
 -- Tests made in order: the first that holds gives the answer. Assumes nothing.
+use Rattle.std.specs.Prelude.{if◌then◌else◌}
 use mathlib.Core.Path.{◌≡◌, refl, sym, ◌∙◌}
 use mathlib.Core.Logic.{◌↔◌}
 use mathlib.Core.Bool.{Bool, true, false, ◌&&◌, not, true≢false, or-true}
@@ -6,7 +7,7 @@ use mathlib.Core.List.{List, [], ◌∷◌, ◌++◌}
 use Prim.Native.Nat.{ℕ}
 use borrow.Author.Tests.{eqb-true, eqb-false, eq-eqb, not-true}
 use lib.Dec.{eqb}
-use Rattle.rules.specs.Words.{if◌then◌else◌, among, Test, ◌refuses◌at◌, judge, refusal}
+use Rattle.rules.specs.Words.{among, Test, ◌refuses◌at◌, judge, refusal}
 use Rattle.laws.proofs.Choice.{by_test, both_left, both_right}
 
 pub judge_yes : (b : Bool) (n p : ℕ) (ts : List Test) → b ≡ true → judge ((b refuses n at p) ∷ ts) ≡ record { number = n; place = p }

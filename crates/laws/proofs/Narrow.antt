@@ -1,4 +1,5 @@
 -- A list as a run reads it: the records that `narrow` spells, and that it leaves a sound list as it is. Assumes nothing.
+use Rattle.std.specs.Prelude.{if◌then◌else◌}
 use mathlib.Core.Path.{◌≡◌, ap, ◌∙◌}
 use mathlib.Core.Bool.{true}
 use mathlib.Core.List.{List, [], ◌∷◌}
@@ -9,7 +10,7 @@ use lib.Dec.{eqb}
 use lib.ListN.{length, get_or, get_or-eq_default}
 use lib.Seq.{ext_get_or}
 use borrow.Author.Tests.{eqb-true}
-use Rattle.rules.specs.Words.{if◌then◌else◌, among, values}
+use Rattle.rules.specs.Words.{among, values}
 use Rattle.rules.specs.Names.{variables}
 use Rattle.rules.specs.Records.{ListRecord, record_from, list_record_at, list_count}
 use Rattle.rules.specs.List.{sound_list}

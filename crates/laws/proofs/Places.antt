@@ -1,5 +1,6 @@
 -- Tests at the places 0 to n-1: what `each`, `first`, `tally` and `values` say of a single place, and of one place more at the end,
 -- which is what a loop needs. Assumes nothing.
+use Rattle.std.specs.Prelude.{if◌then◌else◌}
 use mathlib.Core.Path.{◌≡◌, refl, ap}
 use mathlib.Core.Bool.{Bool, true, false, ◌&&◌}
 use mathlib.Core.List.{List, [], ◌∷◌, ◌++◌}
@@ -8,7 +9,7 @@ use native.Mathlib.Nat.{not-suc-le-zero, le_of_suc-le-suc}
 use native.Mathlib.Numerals.{add-one}
 use native.Mathlib.Omega.{arith}
 use lib.ListN.{length, get_or}
-use Rattle.rules.specs.Words.{if◌then◌else◌, each, first, tally, values}
+use Rattle.rules.specs.Words.{each, first, tally, values}
 use Rattle.laws.proofs.Choice.{by_test, both, both_left, both_right, not_both_left, not_both_right}
 
 -- each of n places passes exactly when every place below n does

@@ -1,5 +1,6 @@
 -- What a step's refusal tells of its station, and what a panel is told that asks: both are what the station's readiness stands for. Assumes
 -- nothing.
+use Rattle.std.specs.Prelude.{if◌then◌else◌}
 use mathlib.Core.Path.{◌≡◌, refl, sym, ap, ◌∙◌}
 use mathlib.Core.Logic.{◌↔◌, ◌≢◌}
 use mathlib.Core.Bool.{Bool, true, false, not, false≢true}
@@ -8,7 +9,7 @@ use Prim.Native.Nat.{ℕ, ◌≤◌}
 use native.Mathlib.Omega.{arith}
 use borrow.Author.Tests.{leb-true, le-leb, eqb-true, eqb-false, eq-eqb, ne_eqb}
 use lib.Dec.{eqb, ltb}
-use Rattle.rules.specs.Words.{if◌then◌else◌, among, Answer, answer, Test, ◌refuses◌at◌, judge, refusal}
+use Rattle.rules.specs.Words.{among, Answer, answer, Test, ◌refuses◌at◌, judge, refusal}
 use Rattle.rules.specs.Names.{ROOM, LIST, STATE, FULL, COMPONENT, NOT_READY, TURN, RESET, ENDED}
 use Rattle.rules.specs.Records.{Pick}
 use Rattle.rules.specs.State.{State}

@@ -1,7 +1,7 @@
 -- A built-in list as a run reads it: its whole records, with the variables' numbers a and b of each taken modulo 32. A sound list is
 -- read as it is, which proofs/Narrow.antt has; of any other a and b name variables that are there. These are definitions.
-use Rattle.std.specs.Prelude.{ℕ, ◌*◌, ◌%◌, List, [], ◌∷◌, get_or}
-use Rattle.rules.specs.Words.{if◌then◌else◌, among, values}
+use Rattle.std.specs.Prelude.{ℕ, ◌*◌, ◌%◌, List, [], ◌∷◌, get_or, if◌then◌else◌}
+use Rattle.rules.specs.Words.{among, values}
 use Rattle.rules.specs.Names.{variables}
 use Rattle.rules.specs.Records.{list_count}
 

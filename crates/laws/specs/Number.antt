@@ -1,6 +1,5 @@
 -- How many entries of a list pass a test. This is a definition.
-use Rattle.std.specs.Prelude.{ℕ, suc, Bool, List, [], ◌∷◌}
-use Rattle.rules.specs.Words.{if◌then◌else◌}
+use Rattle.std.specs.Prelude.{ℕ, suc, Bool, List, [], ◌∷◌, if◌then◌else◌}
 
 module _ {A : Type 0} where
   unfoldable pub number_of : (A → Bool) → List A → ℕ

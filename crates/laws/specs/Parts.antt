@@ -1,6 +1,5 @@
 -- A state by its parts, as the code holds them while it changes them. These are definitions.
-use Rattle.std.specs.Prelude.{ℕ, ◌+◌, List, eqb, ℤ}
-use Rattle.rules.specs.Words.{if◌then◌else◌}
+use Rattle.std.specs.Prelude.{ℕ, ◌+◌, List, eqb, ℤ, if◌then◌else◌}
 use Rattle.rules.specs.State.{State}
 
 -- a state of these parts

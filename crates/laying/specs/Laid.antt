@@ -1,6 +1,6 @@
 -- The layout of a list over a whole file. These are definitions; that they come to the rules' list is proved in the crate `build`.
-use Rattle.std.specs.Prelude.{ℕ, zero, suc, ◌+◌, ◌-◌, ◌*◌, List, [], ◌∷◌, leb, length, get_or}
-use Rattle.rules.specs.Words.{if◌then◌else◌, among, tally, written}
+use Rattle.std.specs.Prelude.{ℕ, zero, suc, ◌+◌, ◌-◌, ◌*◌, List, [], ◌∷◌, leb, length, get_or, if◌then◌else◌}
+use Rattle.rules.specs.Words.{among, tally, written}
 use Rattle.rules.specs.Names.{SKIP, SET, IF, WHILE, AWAIT, INIT}
 use Rattle.rules.specs.Records.{Record, ListRecord, records, record_at, record_count, list_record_bytes}
 use Rattle.rules.specs.Build.{bare, listed}

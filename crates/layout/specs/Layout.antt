@@ -1,7 +1,7 @@
 -- What is known while a list is laid out, one record of the file at a time, from the last to the first, and the record of the list that is
 -- laid for it. These are definitions.
-use Rattle.std.specs.Prelude.{ℕ, ◌+◌, ◌-◌, Bool, ◌&&◌, ◌||◌, not, List, [], ◌∷◌, eqb, ltb, get_or, set, replicate}
-use Rattle.rules.specs.Words.{if◌then◌else◌, among}
+use Rattle.std.specs.Prelude.{ℕ, ◌+◌, ◌-◌, Bool, ◌&&◌, ◌||◌, not, List, [], ◌∷◌, eqb, ltb, get_or, set, replicate, if◌then◌else◌}
+use Rattle.rules.specs.Words.{among}
 use Rattle.rules.specs.Names.{STATION, SKIP, SET, IF, ELSE, FI, WHILE, OD, AWAIT, END, STOP, max_depth, max_stations, no_station}
 use Rattle.rules.specs.Records.{Record, ListRecord}
 use Rattle.rules.specs.Build.{bare, listed}

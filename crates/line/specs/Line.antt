@@ -1,6 +1,5 @@
 -- The line that is printed for a state. These are definitions.
-use Rattle.std.specs.Prelude.{ℕ, List, [], leb}
-use Rattle.rules.specs.Words.{if◌then◌else◌}
+use Rattle.std.specs.Prelude.{ℕ, List, [], leb, if◌then◌else◌}
 use Rattle.rules.specs.Names.{max_stations}
 use Rattle.rules.specs.State.{State}
 use Rattle.rules.specs.Trace.{line}

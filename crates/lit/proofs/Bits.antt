@@ -1,4 +1,5 @@
 -- The bits of a mask: those of the places at which the test holds, and no others; and a mask is known by its bits. Assumes nothing.
+use Rattle.std.specs.Prelude.{if◌then◌else◌}
 use mathlib.Core.Path.{◌≡◌, refl, sym, ap, ◌∙◌}
 use mathlib.Core.Logic.{◌↔◌}
 use mathlib.Core.Bool.{Bool, true, false, false≢true}
@@ -6,7 +7,7 @@ use Prim.Native.Nat.{ℕ, zero, suc, ◌+◌, ◌*◌, ◌/◌, ◌%◌, ◌≤�
 use native.Mathlib.Omega.{arith}
 use borrow.Author.Tests.{eqb-true, eqb-false, eq-eqb, ne_eqb}
 use lib.Dec.{eqb}
-use Rattle.rules.specs.Words.{if◌then◌else◌, mask}
+use Rattle.rules.specs.Words.{mask}
 use Rattle.laws.proofs.Choice.{by_test}
 use Rattle.lit.specs.Lit.{bit}
 

@@ -1,8 +1,8 @@
 // The record of a step in a log: its place, after n start records and the m records of the steps before it, and whether there is room.
 #![tactic(auto)]
 
-ghost use Rattle.std.specs.Prelude.{◌≡◌, [], ◌∷◌, ◌+◌, ◌*◌};
-ghost use Rattle.rules.specs.Words.{if◌then◌else◌, written};
+ghost use Rattle.std.specs.Prelude.{◌≡◌, [], ◌∷◌, ◌+◌, ◌*◌, if◌then◌else◌};
+ghost use Rattle.rules.specs.Words.{written};
 ghost use Rattle.logs.specs.Room.{has_room};
 
 // Whether the log has room for the record of one step more.

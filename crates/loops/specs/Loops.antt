@@ -1,7 +1,7 @@
 -- Where the WHILE of each OD stands in the list, in the order of the ODs: the file's records are read from the first to the last.
 -- These are definitions.
-use Rattle.std.specs.Prelude.{ℕ, ◌+◌, ◌-◌, ◌/◌, List, [], ◌∷◌, eqb, ltb, get_or, set, replicate}
-use Rattle.rules.specs.Words.{if◌then◌else◌, among}
+use Rattle.std.specs.Prelude.{ℕ, ◌+◌, ◌-◌, ◌/◌, List, [], ◌∷◌, eqb, ltb, get_or, set, replicate, if◌then◌else◌}
+use Rattle.rules.specs.Words.{among}
 use Rattle.rules.specs.Names.{STATION, SKIP, SET, IF, WHILE, OD, AWAIT, max_records, max_depth}
 use Rattle.rules.specs.Records.{Record}
 use Rattle.loops.specs.declared.Seeking.{Seeking}

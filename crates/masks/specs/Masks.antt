@@ -1,6 +1,6 @@
 -- The masks of the stations from one on, as the code gathers them from the last station down. These are definitions.
-use Rattle.std.specs.Prelude.{Bool, false, List, ℕ, ◌+◌, ◌-◌, ◌*◌, ◌<◌, min, get_or, ℤ}
-use Rattle.rules.specs.Words.{if◌then◌else◌, mask, values}
+use Rattle.std.specs.Prelude.{Bool, false, List, ℕ, ◌+◌, ◌-◌, ◌*◌, ◌<◌, min, get_or, ℤ, if◌then◌else◌}
+use Rattle.rules.specs.Words.{mask, values}
 use Rattle.rules.specs.Names.{variables, max_stations}
 use Rattle.rules.specs.Records.{Record}
 use Rattle.rules.specs.State.{State, stepless, no_counts}

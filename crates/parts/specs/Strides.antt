@@ -1,6 +1,6 @@
 -- An open list of statements, and where a record takes the reading of it. These are definitions.
-use Rattle.std.specs.Prelude.{ℕ, Bool, true, false, ◌&&◌, not, [], ◌∷◌, eqb}
-use Rattle.rules.specs.Words.{if◌then◌else◌, among}
+use Rattle.std.specs.Prelude.{ℕ, Bool, true, false, ◌&&◌, not, [], ◌∷◌, eqb, if◌then◌else◌}
+use Rattle.rules.specs.Words.{among}
 use Rattle.rules.specs.Names.{STATION, SKIP, SET, IF, ELSE, FI, WHILE, OD, AWAIT, END}
 use Rattle.parts.specs.declared.Part.{Part}
 use Rattle.parts.specs.declared.Stride.{Stride}

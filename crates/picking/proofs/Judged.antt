@@ -1,4 +1,5 @@
 -- What a pick asks of the stations, answered from their readiness before it, which is worked out once. Assumes nothing.
+use Rattle.std.specs.Prelude.{if◌then◌else◌}
 use Prim.Native.Nat.{ℕ, ◌≤◌, ◌<◌, min}
 use mathlib.Core.Path.{◌≡◌, refl, sym, ap, ◌∙◌}
 use mathlib.Core.Logic.{◌⊎◌, ⊎_elim}
@@ -10,7 +11,7 @@ use lib.Dec.{eqb, ltb}
 use lib.IntN.{ℤ, pos}
 use lib.ListN.{get_or, replicate}
 use borrow.Author.Tests.{ne_eqb}
-use Rattle.rules.specs.Words.{if◌then◌else◌, each, changed, refusal, ◌refuses◌at◌}
+use Rattle.rules.specs.Words.{each, changed, refusal, ◌refuses◌at◌}
 use Rattle.rules.specs.Names.{TURN, RESET, max_stations}
 use Rattle.rules.specs.Records.{Pick}
 use Rattle.rules.specs.State.{State, position_in, priority_in}

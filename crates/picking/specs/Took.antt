@@ -1,6 +1,6 @@
 -- One pick of the parts of a state, with a charge and counts that 16 bits can hold. These are definitions.
-use Rattle.std.specs.Prelude.{ℕ, ◌+◌, min, List, eqb, ℤ}
-use Rattle.rules.specs.Words.{if◌then◌else◌, changed, refusal}
+use Rattle.std.specs.Prelude.{ℕ, ◌+◌, min, List, eqb, ℤ, if◌then◌else◌}
+use Rattle.rules.specs.Words.{changed, refusal}
 use Rattle.rules.specs.Names.{max_stations}
 use Rattle.rules.specs.Records.{Pick}
 use Rattle.rules.specs.State.{State, stepless}

@@ -1,11 +1,11 @@
 -- The last text that is reached is the trace's own last line, and the line before it is that of the state reached. Assumes nothing.
+use Rattle.std.specs.Prelude.{if◌then◌else◌}
 use mathlib.Core.Path.{◌≡◌, refl, sym, ap, ◌∙◌}
 use mathlib.Core.Bool.{Bool, true, false, ◌&&◌, false≢true}
 use mathlib.Core.List.{List, [], ◌∷◌, ◌++◌, append_assoc}
 use Prim.Native.Nat.{ℕ, zero, suc, ◌*◌, ◌/◌, ◌-◌}
 use lib.Dec.{eqb}
 use lib.ListN.{length, take, replicate}
-use Rattle.rules.specs.Words.{if◌then◌else◌}
 use Rattle.rules.specs.Names.{undo_station, max_list}
 use Rattle.rules.specs.Records as records
 use Rattle.rules.specs.Records.{pick_at}

@@ -1,8 +1,7 @@
 -- What is reached is where the trace ends: the text is its last line, the state is the one whose line comes before that, and it is the state that
 -- the calls of the trace lead to, made one after another. These are claims: proofs/Ends.antt shows those about the text, and
 -- proofs/Calls.antt the last.
-use Rattle.std.specs.Prelude.{◌≡◌, ◌≢◌, false, ◌&&◌, List, [], ◌∷◌, ◌++◌, ℕ, suc, ◌*◌, ◌/◌, eqb, length, take}
-use Rattle.rules.specs.Words.{if◌then◌else◌}
+use Rattle.std.specs.Prelude.{◌≡◌, ◌≢◌, false, ◌&&◌, List, [], ◌∷◌, ◌++◌, ℕ, suc, ◌*◌, ◌/◌, eqb, length, take, if◌then◌else◌}
 use Rattle.rules.specs.Names.{undo_station}
 use Rattle.rules.specs.Records.{Pick, pick_at}
 use Rattle.rules.specs.State.{zeros}

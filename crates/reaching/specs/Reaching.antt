@@ -1,6 +1,5 @@
 -- What a trace comes to: the picks are taken one after another, to the last or to the first that is refused. These are definitions.
-use Rattle.std.specs.Prelude.{ℕ, zero, suc, ◌-◌, ◌*◌, ◌/◌, List, [], eqb, length, take}
-use Rattle.rules.specs.Words.{if◌then◌else◌}
+use Rattle.std.specs.Prelude.{ℕ, zero, suc, ◌-◌, ◌*◌, ◌/◌, List, [], eqb, length, take, if◌then◌else◌}
 use Rattle.rules.specs.Names.{LENGTH}
 use Rattle.rules.specs.Records.{pick_at}
 use Rattle.rules.specs.State.{State}

@@ -1,5 +1,6 @@
 -- What is read from the part of a buffer that begins at a kept place: the state in that place, or zeros where the part is shorter than
 -- a place. Assumes nothing.
+use Rattle.std.specs.Prelude.{if◌then◌else◌}
 use Prim.Native.Nat.{ℕ, ◌+◌, ◌≤◌, ◌<◌}
 use mathlib.Core.Path.{◌≡◌}
 use mathlib.Core.Bool.{true}
@@ -10,7 +11,6 @@ use lib.Dec.{leb}
 use lib.ListN.{length, drop, length-drop}
 use lib.Seq.{get_or-drop}
 use borrow.Author.Tests.{le-leb, lt-leb}
-use Rattle.rules.specs.Words.{if◌then◌else◌}
 use Rattle.rules.specs.Names.{kept_length}
 use Rattle.rules.specs.State.{State, zeros}
 use Rattle.rules.specs.Kept.{kept_offset, kept_state, kept_zeros}

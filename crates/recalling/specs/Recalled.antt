@@ -1,6 +1,5 @@
 -- The state in a kept place, read from the part of a buffer that begins there. This is a definition.
-use Rattle.std.specs.Prelude.{ℕ, List, leb, length}
-use Rattle.rules.specs.Words.{if◌then◌else◌}
+use Rattle.std.specs.Prelude.{ℕ, List, leb, length, if◌then◌else◌}
 use Rattle.rules.specs.Names.{kept_length}
 use Rattle.rules.specs.State.{State, zeros}
 use Rattle.rules.specs.Kept.{kept_state}

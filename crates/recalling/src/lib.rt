@@ -2,8 +2,8 @@
 // place. Where there are fewer than its 184 everything is zero.
 #![tactic(auto)]
 
-ghost use Rattle.std.specs.Prelude.{◌≡◌, ◌&&◌, ◌+◌, ◌*◌, ◌≤◌, eqb, leb, length, get_or, replicate};
-ghost use Rattle.rules.specs.Words.{if◌then◌else◌, each, values};
+ghost use Rattle.std.specs.Prelude.{◌≡◌, ◌&&◌, ◌+◌, ◌*◌, ◌≤◌, eqb, leb, length, get_or, replicate, if◌then◌else◌};
+ghost use Rattle.rules.specs.Words.{each, values};
 ghost use Rattle.rules.specs.Names.{max_stations, kept_length};
 ghost use Rattle.rules.specs.Records.{half};
 ghost use Rattle.rules.specs.Kept.{lowered, kept_zeros};

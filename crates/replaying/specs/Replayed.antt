@@ -1,6 +1,5 @@
 -- So many records of a log, each picked as `picking` makes it of any list and of the parts of any state. These are definitions.
-use Rattle.std.specs.Prelude.{ℕ, zero, suc, List, eqb}
-use Rattle.rules.specs.Words.{if◌then◌else◌}
+use Rattle.std.specs.Prelude.{ℕ, zero, suc, List, eqb, if◌then◌else◌}
 use Rattle.rules.specs.Records.{pick_at}
 use Rattle.rules.specs.State.{State}
 use Rattle.rules.specs.Undo.{Undone}

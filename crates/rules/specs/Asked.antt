@@ -1,6 +1,6 @@
 -- The question that a panel asks of one station: is it ready, has it ended, or does it wait, and where? These are definitions.
-use Rattle.std.specs.Prelude.{ℕ, List, eqb}
-use Rattle.rules.specs.Words.{if◌then◌else◌, Answer, answer, refusal}
+use Rattle.std.specs.Prelude.{ℕ, List, eqb, if◌then◌else◌}
+use Rattle.rules.specs.Words.{Answer, answer, refusal}
 use Rattle.rules.specs.State.{State}
 use Rattle.rules.specs.Ready.{readiness, told}
 use Rattle.rules.specs.Lights.{lights_tests}

@@ -1,6 +1,6 @@
 -- "The built-in list", and BUILD. These are definitions.
-use Rattle.std.specs.Prelude.{ℕ, suc, ◌+◌, ◌*◌, List, [], ◌∷◌, ◌++◌, map, eqb, ltb, length}
-use Rattle.rules.specs.Words.{if◌then◌else◌, written, Test, ◌refuses◌at◌, judge}
+use Rattle.std.specs.Prelude.{ℕ, suc, ◌+◌, ◌*◌, List, [], ◌∷◌, ◌++◌, map, eqb, ltb, length, if◌then◌else◌}
+use Rattle.rules.specs.Words.{written, Test, ◌refuses◌at◌, judge}
 use Rattle.rules.specs.Names.{SKIP, INIT, STOP, ROOM, no_station}
 use Rattle.rules.specs.Records.{Record, ListRecord, list_record_bytes}
 use Rattle.rules.specs.Trees.{Statements, nothing, skip, assign, branch, loop, await, stations_of, initial_part, size}

@@ -1,8 +1,7 @@
 -- A history of any seven calls: calls of any kind and number, refused ones among them, on one list, with one log and one buffer of kept
 -- states that are always lent whole, each given the last state answered; and the steps that stand after it. These are definitions.
-use Rattle.std.specs.Prelude.{ℕ, zero, suc, List, [], ◌∷◌, ◌++◌, eqb}
+use Rattle.std.specs.Prelude.{ℕ, zero, suc, List, [], ◌∷◌, ◌++◌, eqb, if◌then◌else◌}
 use Rattle.std.proofs.Math.Option.{Option, none, some}
-use Rattle.rules.specs.Words.{if◌then◌else◌}
 use Rattle.rules.specs.Records.{Pick, pick_at, pick_bytes}
 use Rattle.rules.specs.State.{State}
 use Rattle.rules.specs.Lent.{Lent}

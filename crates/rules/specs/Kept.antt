@@ -1,9 +1,9 @@
 -- Kept states: "the whole run state after steps 64, 128 and so on to 4,096 in a lent buffer beside the log". docs/KEPT.md gives their bytes one
 -- by one. Of a number that is spelled by several bytes the last is what the others leave, and is a byte where the number fits them. These are
 -- definitions.
-use Rattle.std.specs.Prelude.{ℕ, ◌+◌, ◌-◌, ◌*◌, ◌/◌, ◌%◌, Bool, ◌&&◌, List, [], ◌∷◌, ◌++◌, eqb, ltb, length, get_or, replicate, ℤ, pos, negsuc}
+use Rattle.std.specs.Prelude.{ℕ, ◌+◌, ◌-◌, ◌*◌, ◌/◌, ◌%◌, Bool, ◌&&◌, List, [], ◌∷◌, ◌++◌, eqb, ltb, length, get_or, replicate, ℤ, pos, negsuc, if◌then◌else◌}
 use Rattle.std.proofs.Math.IntN.{sub_ℕ}
-use Rattle.rules.specs.Words.{if◌then◌else◌, each, values, joined, written}
+use Rattle.rules.specs.Words.{each, values, joined, written}
 use Rattle.rules.specs.Names.{variables, max_stations, kept_every, max_kept, kept_length}
 use Rattle.rules.specs.Records.{half, word}
 use Rattle.rules.specs.State.{State, sound_state}

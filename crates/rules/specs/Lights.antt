@@ -1,6 +1,6 @@
 -- LIGHTS. These are definitions.
-use Rattle.std.specs.Prelude.{ℕ, zero, suc, ◌-◌, Bool, false, ◌&&◌, ◌||◌, not, List, [], ◌∷◌, eqb, leb, replicate}
-use Rattle.rules.specs.Words.{if◌then◌else◌, among, mask, values, Test, ◌refuses◌at◌, refusal}
+use Rattle.std.specs.Prelude.{ℕ, zero, suc, ◌-◌, Bool, false, ◌&&◌, ◌||◌, not, List, [], ◌∷◌, eqb, leb, replicate, if◌then◌else◌}
+use Rattle.rules.specs.Words.{among, mask, values, Test, ◌refuses◌at◌, refusal}
 use Rattle.rules.specs.Names.{SET, IF, WHILE, AWAIT, LIST, STATE, variables}
 use Rattle.rules.specs.Records.{Record, list_record_at, list_count}
 use Rattle.rules.specs.List.{sound_list}

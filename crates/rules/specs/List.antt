@@ -1,6 +1,6 @@
 -- "A list is sound when …", clause by clause, of any bytes whatever. These are definitions.
-use Rattle.std.specs.Prelude.{ℕ, suc, ◌+◌, ◌-◌, ◌%◌, Bool, ◌&&◌, ◌||◌, not, List, [], ◌∷◌, eqb, leb, ltb, length}
-use Rattle.rules.specs.Words.{if◌then◌else◌, among, each, first}
+use Rattle.std.specs.Prelude.{ℕ, suc, ◌+◌, ◌-◌, ◌%◌, Bool, ◌&&◌, ◌||◌, not, List, [], ◌∷◌, eqb, leb, ltb, length, if◌then◌else◌}
+use Rattle.rules.specs.Words.{among, each, first}
 use Rattle.rules.specs.Names.{SKIP, SET, IF, WHILE, AWAIT, INIT, STOP, max_list, max_stations, no_station}
 use Rattle.rules.specs.Records.{Record, ListRecord, list_record_at, list_count}
 use Rattle.rules.specs.Fields.{fields_right}

@@ -1,7 +1,7 @@
 -- What a station's move does: SKIP, SET, one test, or an AWAIT with its body. It looks at the variables and the positions alone, and at no
 -- priority. These are definitions.
-use Rattle.std.specs.Prelude.{ℕ, zero, suc, true, false, List, [], ◌∷◌, eqb, set}
-use Rattle.rules.specs.Words.{if◌then◌else◌, among}
+use Rattle.std.specs.Prelude.{ℕ, zero, suc, true, false, List, [], ◌∷◌, eqb, set, if◌then◌else◌}
+use Rattle.rules.specs.Words.{among}
 use Rattle.rules.specs.Names.{SET, IF, WHILE, AWAIT}
 use Rattle.rules.specs.Records.{Record, ListRecord, list_record_at, list_count}
 use Rattle.rules.specs.Values.{assigned, holds}

@@ -1,6 +1,5 @@
 -- Passing over, in the steps that stand. These are definitions.
-use Rattle.std.specs.Prelude.{ℕ, zero, suc, ◌+◌, ◌≢◌, ◌&&◌, not, List, eqb}
-use Rattle.rules.specs.Words.{if◌then◌else◌}
+use Rattle.std.specs.Prelude.{ℕ, zero, suc, ◌+◌, ◌≢◌, ◌&&◌, not, List, eqb, if◌then◌else◌}
 use Rattle.rules.specs.Ready.{ready}
 use Rattle.rules.specs.History.{Steps, begun, taken, top}
 

@@ -1,7 +1,7 @@
 -- "a station is ready when not at STOP and, if at AWAIT, its condition holds"; and what its readiness tells where it is not. These are
 -- definitions.
-use Rattle.std.specs.Prelude.{ℕ, Bool, true, false, ◌&&◌, not, List, eqb, ltb}
-use Rattle.rules.specs.Words.{if◌then◌else◌, Answer, answer}
+use Rattle.std.specs.Prelude.{ℕ, Bool, true, false, ◌&&◌, not, List, eqb, ltb, if◌then◌else◌}
+use Rattle.rules.specs.Words.{Answer, answer}
 use Rattle.rules.specs.Names.{AWAIT, STOP, COMPONENT, NOT_READY, ENDED}
 use Rattle.rules.specs.Records.{ListRecord, list_record_at}
 use Rattle.rules.specs.Values.{holds}

@@ -1,6 +1,6 @@
 -- RUN: single steps until the first refusal, the end of the picks or the most-steps number. These are definitions.
-use Rattle.std.specs.Prelude.{ℕ, zero, suc, ◌/◌, ◌%◌, min, not, List, [], ◌∷◌, eqb, length}
-use Rattle.rules.specs.Words.{if◌then◌else◌, Test, ◌refuses◌at◌, refusal}
+use Rattle.std.specs.Prelude.{ℕ, zero, suc, ◌/◌, ◌%◌, min, not, List, [], ◌∷◌, eqb, length, if◌then◌else◌}
+use Rattle.rules.specs.Words.{Test, ◌refuses◌at◌, refusal}
 use Rattle.rules.specs.Names.{LENGTH, LIST, STATE}
 use Rattle.rules.specs.Records.{pick_at}
 use Rattle.rules.specs.List.{sound_list}

@@ -1,7 +1,7 @@
 -- SHAPE and DEPTH: a walk over the kinds of a file's records, from the first to the last, that keeps what is open.
 -- These are definitions.
-use Rattle.std.specs.Prelude.{ℕ, suc, ◌-◌, Bool, true, false, ◌&&◌, not, List, [], ◌∷◌, eqb, leb}
-use Rattle.rules.specs.Words.{if◌then◌else◌, among}
+use Rattle.std.specs.Prelude.{ℕ, suc, ◌-◌, Bool, true, false, ◌&&◌, not, List, [], ◌∷◌, eqb, leb, if◌then◌else◌}
+use Rattle.rules.specs.Words.{among}
 use Rattle.rules.specs.Names.{STATION, SKIP, SET, IF, ELSE, FI, WHILE, OD, AWAIT, END, max_depth}
 
 -- an open list of statements: the kind that closes it, whether it stands in an AWAIT body, and whether it has a statement yet

@@ -1,6 +1,6 @@
 -- START. These are definitions.
-use Rattle.std.specs.Prelude.{ℕ, zero, suc, ◌-◌, ◌*◌, Bool, not, ◌||◌, List, [], ◌∷◌, ◌++◌, map, eqb, leb, ltb, length, get_or, replicate, pos}
-use Rattle.rules.specs.Words.{if◌then◌else◌, each, values, written, Test, ◌refuses◌at◌, refusal}
+use Rattle.std.specs.Prelude.{ℕ, zero, suc, ◌-◌, ◌*◌, Bool, not, ◌||◌, List, [], ◌∷◌, ◌++◌, map, eqb, leb, ltb, length, get_or, replicate, pos, if◌then◌else◌}
+use Rattle.rules.specs.Words.{each, values, written, Test, ◌refuses◌at◌, refusal}
 use Rattle.rules.specs.Names.{LIST, RESET, ROOM, variables, max_stations}
 use Rattle.rules.specs.Records.{list_record_at}
 use Rattle.rules.specs.List.{stations, initials, sound_list}

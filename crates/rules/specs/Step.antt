@@ -1,7 +1,7 @@
 -- One step: a pick, its tests in their order, the move of its station, FAIR's charge, the counts, its record in the log and the state that is
 -- kept. These are definitions.
-use Rattle.std.specs.Prelude.{ℕ, ◌+◌, ◌*◌, not, List, [], ◌∷◌, ◌++◌, eqb, leb, ltb, length, ℤ}
-use Rattle.rules.specs.Words.{if◌then◌else◌, written, Test, ◌refuses◌at◌, refusal}
+use Rattle.std.specs.Prelude.{ℕ, ◌+◌, ◌*◌, not, List, [], ◌∷◌, ◌++◌, eqb, leb, ltb, length, ℤ, if◌then◌else◌}
+use Rattle.rules.specs.Words.{written, Test, ◌refuses◌at◌, refusal}
 use Rattle.rules.specs.Names.{LIST, STATE, FULL, ROOM, COMPONENT, ENDED, NOT_READY, TURN, RESET, max_steps}
 use Rattle.rules.specs.Records.{Pick, pick_bytes}
 use Rattle.rules.specs.List.{sound_list}

@@ -1,6 +1,5 @@
 -- What the trace program prints, byte by byte, for its three files. These are definitions.
-use Rattle.std.specs.Prelude.{ℕ, zero, suc, ◌+◌, ◌*◌, ◌/◌, ◌%◌, Bool, true, false, ◌&&◌, ◌||◌, List, [], ◌∷◌, ◌++◌, eqb, ltb, length, take, replicate, ℤ, pos, negsuc}
-use Rattle.rules.specs.Words.{if◌then◌else◌}
+use Rattle.std.specs.Prelude.{ℕ, zero, suc, ◌+◌, ◌*◌, ◌/◌, ◌%◌, Bool, true, false, ◌&&◌, ◌||◌, List, [], ◌∷◌, ◌++◌, eqb, ltb, length, take, replicate, ℤ, pos, negsuc, if◌then◌else◌}
 use Rattle.rules.specs.Names.{LENGTH, RESET, max_list, max_stations, max_steps, max_kept, kept_length, undo_station}
 use Rattle.rules.specs.Records.{Pick, pick_at}
 use Rattle.rules.specs.Build.{build}

@@ -1,7 +1,6 @@
 -- An accepted file as an initial part and stations of statements. These are definitions.
-use Rattle.std.specs.Prelude.{ℕ, suc, ◌+◌, eqb}
+use Rattle.std.specs.Prelude.{ℕ, suc, ◌+◌, eqb, if◌then◌else◌}
 use mathlib.Core.List.{List, [], ◌∷◌, tail}
-use Rattle.rules.specs.Words.{if◌then◌else◌}
 use Rattle.rules.specs.Names.{SKIP, SET, IF, WHILE, AWAIT}
 use Rattle.rules.specs.Records.{Record, records}
 

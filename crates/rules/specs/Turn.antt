@@ -1,8 +1,8 @@
 -- The pick order, FAIR, of any readiness: whose turn it is among n stations, and what a pick does to their priority numbers and their counts
 -- of being passed over. These are definitions.
-use Rattle.std.specs.Prelude.{ℕ, suc, Bool, ◌||◌, not, List, eqb, ℤ, pos, ◌-ℤ◌}
+use Rattle.std.specs.Prelude.{ℕ, suc, Bool, ◌||◌, not, List, eqb, ℤ, pos, ◌-ℤ◌, if◌then◌else◌}
 use Rattle.std.specs.Int.Signed.{le_z}
-use Rattle.rules.specs.Words.{if◌then◌else◌, each, changed}
+use Rattle.rules.specs.Words.{each, changed}
 use Rattle.rules.specs.Records.{Pick}
 
 -- a station of priority q, ready or not, does not come before one of priority p

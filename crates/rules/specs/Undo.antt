@@ -1,7 +1,7 @@
 -- UNDO: "the state reached by replaying the first n+m-1 records", which document 02 has begin at a kept state. Document 01's own undo stands
 -- beside it: where only these calls wrote what is lent, the two are one (crates/history). These are definitions.
-use Rattle.std.specs.Prelude.{ℕ, zero, suc, ◌+◌, ◌-◌, ◌*◌, ◌/◌, Bool, ◌&&◌, not, List, [], ◌∷◌, ◌++◌, eqb, leb, ltb, length}
-use Rattle.rules.specs.Words.{if◌then◌else◌, each, values, Test, ◌refuses◌at◌, refusal}
+use Rattle.std.specs.Prelude.{ℕ, zero, suc, ◌+◌, ◌-◌, ◌*◌, ◌/◌, Bool, ◌&&◌, not, List, [], ◌∷◌, ◌++◌, eqb, leb, ltb, length, if◌then◌else◌}
+use Rattle.rules.specs.Words.{each, values, Test, ◌refuses◌at◌, refusal}
 use Rattle.rules.specs.Names.{ROOM, LIST, STATE, EMPTY, LOG, kept_every}
 use Rattle.rules.specs.Records.{pick_at}
 use Rattle.rules.specs.List.{stations, sound_list}

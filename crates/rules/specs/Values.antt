@@ -1,6 +1,5 @@
 -- Variables, and what SET and the conditions make of them. These are definitions.
-use Rattle.std.specs.Prelude.{ℕ, ◌+◌, ◌-◌, ◌%◌, ◌^◌, Bool, not, List, eqb, leb, ltb, get_or, set}
-use Rattle.rules.specs.Words.{if◌then◌else◌}
+use Rattle.std.specs.Prelude.{ℕ, ◌+◌, ◌-◌, ◌%◌, ◌^◌, Bool, not, List, eqb, leb, ltb, get_or, set, if◌then◌else◌}
 use Rattle.rules.specs.Records.{Record}
 
 -- "Sums and differences wrap at 2^32"

@@ -1,6 +1,6 @@
 -- Why a station was not picked: document 02's T-04. These are definitions.
-use Rattle.std.specs.Prelude.{ℕ, List, [], ◌∷◌, eqb, ltb, get_or}
-use Rattle.rules.specs.Words.{if◌then◌else◌, first, refusal}
+use Rattle.std.specs.Prelude.{ℕ, List, [], ◌∷◌, eqb, ltb, get_or, if◌then◌else◌}
+use Rattle.rules.specs.Words.{first, refusal}
 use Rattle.rules.specs.Names.{COMPONENT, NOT_READY, TURN, ENDED}
 use Rattle.rules.specs.Records.{Record, list_record_at}
 use Rattle.rules.specs.State.{State}

@@ -1,14 +1,8 @@
 -- The words that the rules are written with: a choice, a test at each of some places, tests in their order, bytes put into a buffer.
 -- These are definitions. They assume nothing.
-use Rattle.std.specs.Prelude.{ℕ, zero, suc, ◌+◌, ◌*◌, Bool, true, false, ◌&&◌, ◌||◌, List, [], ◌∷◌, ◌++◌, eqb, length, take, drop}
+use Rattle.std.specs.Prelude.{ℕ, zero, suc, ◌+◌, ◌*◌, Bool, true, false, ◌&&◌, ◌||◌, List, [], ◌∷◌, ◌++◌, eqb, length, take, drop, if◌then◌else◌}
 
-infix 15 if◌then◌else◌
 infix 20 ◌refuses◌at◌
-module _ {A : Type 0} where
-  abbrev pub if◌then◌else◌ : Bool → A → A → A
-  if◌then◌else◌ true x y = x
-  if◌then◌else◌ false x y = y
-
 -- the number is one of these
 abbrev pub among : ℕ → List ℕ → Bool
 among k [] = false

@@ -1,5 +1,6 @@
 -- What an undo asks of the start records, at the number of stations that the state has; and an undo by the parts that its replay reaches.
 -- Assumes nothing.
+use Rattle.std.specs.Prelude.{if◌then◌else◌}
 use Prim.Native.Nat.{ℕ, zero, suc, ◌+◌, ◌-◌, ◌*◌, ◌≤◌, ◌<◌}
 use mathlib.Core.Path.{◌≡◌, sym, ap, ◌∙◌}
 use mathlib.Core.Logic.{◌≢◌}
@@ -9,7 +10,7 @@ use native.Mathlib.Omega.{arith}
 use lib.Dec.{eqb, leb}
 use lib.ListN.{length, drop}
 use borrow.Author.Tests.{eqb-true, eq-eqb, ne_eqb, le-ltb}
-use Rattle.rules.specs.Words.{if◌then◌else◌, each, Test, judge, refusal}
+use Rattle.rules.specs.Words.{each, Test, judge, refusal}
 use Rattle.rules.specs.Names.{LOG, max_steps, max_kept, kept_every, kept_length}
 use Rattle.rules.specs.Records.{pick_at}
 use Rattle.rules.specs.List.{stations}

@@ -1,4 +1,5 @@
 -- Reading the parts of a file is the rules' walk over it: what reading finds decides the file's shape. Assumes nothing.
+use Rattle.std.specs.Prelude.{if◌then◌else◌}
 use mathlib.Core.Path.{◌≡◌, refl, ap, ◌∙◌}
 use mathlib.Core.Bool.{true, false, ◌&&◌, not}
 use mathlib.Core.List.{List, [], ◌∷◌}
@@ -7,7 +8,7 @@ use native.Mathlib.Omega.{arith}
 use lib.Dec.{eqb}
 use lib.ListN.{length}
 use borrow.Author.Tests.{eqb-true}
-use Rattle.rules.specs.Words.{if◌then◌else◌, among}
+use Rattle.rules.specs.Words.{among}
 use Rattle.rules.specs.Names.{STATION, SKIP, SET, IF, ELSE, WHILE, AWAIT}
 use Rattle.rules.specs.Shape.{Stand, within, wrong, leave, close, stride, is_wrong, finished, wrong_at, walked}
 use Rattle.rules.specs.Shape.{Part as OpenPart}

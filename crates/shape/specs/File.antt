@@ -1,6 +1,5 @@
 -- The shape of a file. These are definitions.
-use Rattle.std.specs.Prelude.{ℕ, ◌*◌, List, leb, length}
-use Rattle.rules.specs.Words.{if◌then◌else◌}
+use Rattle.std.specs.Prelude.{ℕ, ◌*◌, List, leb, length, if◌then◌else◌}
 use Rattle.rules.specs.Names.{max_records}
 use Rattle.rules.specs.Shape.{well_shaped, shape_place}
 use Rattle.rules.specs.Check.{kinds}

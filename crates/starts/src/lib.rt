@@ -1,8 +1,8 @@
 // What a start asks of its resets, and the start records at the front of a log, over any log whatever.
 #![tactic(auto)]
 
-ghost use Rattle.std.specs.Prelude.{◌≡◌, ◌&&◌, ◌*◌, eqb, leb, length, get_or};
-ghost use Rattle.rules.specs.Words.{if◌then◌else◌, each, written};
+ghost use Rattle.std.specs.Prelude.{◌≡◌, ◌&&◌, ◌*◌, eqb, leb, length, get_or, if◌then◌else◌};
+ghost use Rattle.rules.specs.Words.{each, written};
 ghost use Rattle.rules.specs.Records.{pick_at};
 ghost use Rattle.rules.specs.Start.{start_records};
 ghost use Rattle.starts.specs.Room.{room};

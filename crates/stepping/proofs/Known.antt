@@ -1,11 +1,12 @@
 -- On a list and a state that are sound, with a B from 0 to 255, a step of the state's parts is the rules' STEP. Assumes nothing.
+use Rattle.std.specs.Prelude.{if◌then◌else◌}
 use Prim.Native.Nat.{ℕ, ◌≤◌, ◌<◌}
 use mathlib.Core.Path.{◌≡◌, sym, ap, ◌∙◌}
 use mathlib.Core.List.{List}
 use native.Mathlib.Omega.{arith}
 use lib.Dec.{eqb, leb}
 use borrow.Author.Tests.{eqb-true, eqb-false, le-leb, lt-leb}
-use Rattle.rules.specs.Words.{Answer, if◌then◌else◌, judge, refusal}
+use Rattle.rules.specs.Words.{Answer, judge, refusal}
 use Rattle.rules.specs.Names.{max_steps}
 use Rattle.rules.specs.Records.{Pick}
 use Rattle.rules.specs.State.{State}

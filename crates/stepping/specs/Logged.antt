@@ -1,6 +1,6 @@
 -- One step of a state past 7 and 8, with the pick as `picking` makes it of any list and of the parts of any state. These are definitions.
-use Rattle.std.specs.Prelude.{ℕ, ◌+◌, ◌*◌, List, [], ◌∷◌, eqb, leb, ltb, length}
-use Rattle.rules.specs.Words.{if◌then◌else◌, Test, ◌refuses◌at◌, refusal}
+use Rattle.std.specs.Prelude.{ℕ, ◌+◌, ◌*◌, List, [], ◌∷◌, eqb, leb, ltb, length, if◌then◌else◌}
+use Rattle.rules.specs.Words.{Test, ◌refuses◌at◌, refusal}
 use Rattle.rules.specs.Names.{FULL, ROOM, max_steps}
 use Rattle.rules.specs.Records.{Pick}
 use Rattle.rules.specs.State.{State}

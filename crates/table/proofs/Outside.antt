@@ -1,5 +1,6 @@
 -- Records that lie outside the table by their kind or their op alone: the rules refuse them too.
 -- Assumes nothing.
+use Rattle.std.specs.Prelude.{if◌then◌else◌}
 use mathlib.Core.Path.{◌≡◌, refl}
 use mathlib.Core.Bool.{Bool, true, false, and-false}
 use mathlib.Core.List.{[], ◌∷◌}
@@ -8,7 +9,7 @@ use native.Mathlib.Omega.{arith}
 use lib.Dec.{eqb, lit<}
 use lib.ListN.{get_or, get_or-eq_default}
 use borrow.Author.Tests.{ne_eqb}
-use Rattle.rules.specs.Words.{if◌then◌else◌, among}
+use Rattle.rules.specs.Words.{among}
 use Rattle.rules.specs.Names.{STATION, SKIP, SET, IF, ELSE, FI, WHILE, OD, AWAIT, END}
 use Rattle.rules.specs.Records.{Record}
 use Rattle.rules.specs.Fields.{obeys, no_row, bare_row, set_rows, test_rows, rules_of, fields_right}

@@ -1,7 +1,7 @@
 -- What a station's next step touches, as the code works it out: of a record that is handed over, with whether its station is ready, record
 -- by record. These are definitions.
-use Rattle.std.specs.Prelude.{◌≡◌, ℕ, ◌-◌, ◌≤◌, ◌<◌, Bool, false, ◌&&◌, ◌||◌, List, [], ◌∷◌, eqb, leb, length, get_or}
-use Rattle.rules.specs.Words.{if◌then◌else◌, values}
+use Rattle.std.specs.Prelude.{◌≡◌, ℕ, ◌-◌, ◌≤◌, ◌<◌, Bool, false, ◌&&◌, ◌||◌, List, [], ◌∷◌, eqb, leb, length, get_or, if◌then◌else◌}
+use Rattle.rules.specs.Words.{values}
 use Rattle.rules.specs.Names.{AWAIT, variables, max_list}
 use Rattle.rules.specs.Records.{Record, ListRecord, list_record_at, list_count}
 use Rattle.rules.specs.Lights.{reads, writes, led_to, some_of}

@@ -1,6 +1,6 @@
 -- What one record reads by its b and its k, and a variable more among those that are touched. These are definitions.
-use Rattle.std.specs.Prelude.{ℕ, Bool, false, ◌&&◌, ◌||◌, List, [], ◌∷◌, eqb, leb, get_or}
-use Rattle.rules.specs.Words.{if◌then◌else◌, among, values}
+use Rattle.std.specs.Prelude.{ℕ, Bool, false, ◌&&◌, ◌||◌, List, [], ◌∷◌, eqb, leb, get_or, if◌then◌else◌}
+use Rattle.rules.specs.Words.{among, values}
 use Rattle.rules.specs.Names.{SET, IF, WHILE, AWAIT, variables}
 use Rattle.rules.specs.Records.{Record}
 

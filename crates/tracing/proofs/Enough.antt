@@ -1,4 +1,5 @@
 -- One byte more than a file may have decides as much as the whole of it. Assumes nothing.
+use Rattle.std.specs.Prelude.{if◌then◌else◌}
 use mathlib.Core.Path.{◌≡◌, refl, sym, ◌∙◌, ap}
 use mathlib.Core.Bool.{true, not, ◌||◌, or-true}
 use mathlib.Core.List.{List, [], ◌∷◌, ◌++◌}
@@ -8,7 +9,7 @@ use borrow.Author.Tests.{leb-true, leb-false, lt-ltb, ne_eqb}
 use lib.Dec.{eqb, leb}
 use lib.ListN.{length, take, replicate}
 use lib.Seq.{take_all, length-take-le}
-use Rattle.rules.specs.Words.{if◌then◌else◌, judge}
+use Rattle.rules.specs.Words.{judge}
 use Rattle.rules.specs.Names.{LENGTH, LIST, RESET, max_list, max_stations}
 use Rattle.rules.specs.Check.{wrong_length}
 use Rattle.rules.specs.State.{State}

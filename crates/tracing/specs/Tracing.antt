@@ -1,6 +1,5 @@
 -- Where a trace stands, and the piece that is printed next; what is still to be printed, in the rules' words. These are definitions.
-use Rattle.std.specs.Prelude.{ℕ, zero, suc, ◌-◌, ◌*◌, ◌/◌, Bool, true, false, List, [], ◌∷◌, ◌++◌, eqb, ltb, length, take}
-use Rattle.rules.specs.Words.{if◌then◌else◌}
+use Rattle.std.specs.Prelude.{ℕ, zero, suc, ◌-◌, ◌*◌, ◌/◌, Bool, true, false, List, [], ◌∷◌, ◌++◌, eqb, ltb, length, take, if◌then◌else◌}
 use Rattle.rules.specs.Names.{LENGTH, RESET}
 use Rattle.rules.specs.Records.{pick_at}
 use Rattle.rules.specs.State.{State, zeros}

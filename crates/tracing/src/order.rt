@@ -1,7 +1,6 @@
 // The order of what is printed: the start's line, a line after each pick taken, the last line.
-ghost use Rattle.std.specs.Prelude.{◌≡◌};
+ghost use Rattle.std.specs.Prelude.{◌≡◌, if◌then◌else◌};
 ghost use Rattle.rules.specs.Names.{LENGTH};
-ghost use Rattle.rules.specs.Words.{if◌then◌else◌};
 ghost use Rattle.rules.specs.Trace.{wrong_picks};
 ghost use Rattle.tracing.specs.Tracing.{piece, pick_piece, all_printed};
 ghost use Rattle.tracing.specs.View.{as_tracing, as_piece};

@@ -1,9 +1,9 @@
 // The pick order, of what is known of the stations: which are ready, their priorities, and what the picked one's readiness tells.
 #![tactic(auto)]
 
-ghost use Rattle.std.specs.Prelude.{◌≡◌, false, ◌&&◌, ◌||◌, not, [], ◌∷◌, eqb, get_or};
+ghost use Rattle.std.specs.Prelude.{◌≡◌, false, ◌&&◌, ◌||◌, not, [], ◌∷◌, eqb, get_or, if◌then◌else◌};
 ghost use Rattle.std.specs.Int.Signed.{lt_z};
-ghost use Rattle.rules.specs.Words.{if◌then◌else◌, first, ◌refuses◌at◌, refusal};
+ghost use Rattle.rules.specs.Words.{first, ◌refuses◌at◌, refusal};
 ghost use Rattle.rules.specs.Names.{TURN, RESET};
 ghost use Rattle.rules.specs.State.{priority_in};
 ghost use Rattle.rules.specs.Turn.{yields_to, lowest_of};

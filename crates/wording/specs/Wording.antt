@@ -1,8 +1,7 @@
 -- The line that says why a station was not picked, byte by byte. These are definitions.
-use Rattle.std.specs.Prelude.{ℕ, List, [], ◌∷◌, ◌++◌, eqb, get_or}
+use Rattle.std.specs.Prelude.{ℕ, List, [], ◌∷◌, ◌++◌, eqb, get_or, if◌then◌else◌}
 use Prim.Native.Char.{code}
 use Prim.Native.String.{String, [] as no_letters, ◌∷◌ as ◌before◌}
-use Rattle.rules.specs.Words.{if◌then◌else◌}
 use Rattle.rules.specs.Names.{NOT_READY, TURN, ENDED}
 use Rattle.rules.specs.Trace.{decimal}
 use Rattle.rules.specs.Why.{Why}

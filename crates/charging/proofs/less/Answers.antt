@@ -1,4 +1,5 @@
 -- `charging::less` meets its contract. Assumes nothing.
+use Rattle.std.specs.Prelude.{if◌then◌else◌}
 use mathlib.Core.Path.{◌≡◌, refl, sym, ◌∙◌}
 use mathlib.Core.Bool.{Bool, true, false, ◌&&◌, true≢false}
 use mir.Syntax.{w16}
@@ -6,7 +7,6 @@ use mir.ValLaws.{to_z-of_z}
 use lib.IntN.{ℤ, pos, negsuc, neg_ℤ, ◌-ℤ◌}
 use lib.Signed.{le_z, lt_z}
 use borrow.Author.Tests.{ltb-true, ltb-false, le-leb, lt-leb}
-use Rattle.rules.specs.Words.{if◌then◌else◌}
 use Rattle.laws.proofs.Choice.{if_yes, split}
 use Rattle.charging.specs.Charge.{lowered}
 use Rattle.charging.proofs.Held.{sfits_pred}

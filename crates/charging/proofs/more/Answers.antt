@@ -1,4 +1,5 @@
 -- `charging::more` meets its contract. Assumes nothing.
+use Rattle.std.specs.Prelude.{if◌then◌else◌}
 use mathlib.Core.Path.{◌≡◌, refl, sym}
 use mathlib.Core.Bool.{Bool, true, false, ◌&&◌}
 use Prim.Native.Nat.{ℕ, suc, ◌<◌}
@@ -6,7 +7,6 @@ use native.Mathlib.Numerals.{add-one}
 use native.Mathlib.Omega.{arith}
 use borrow.Author.Tests.{ltb-true, ltb-false, le-leb, lt-leb}
 use lib.Dec.{ltb}
-use Rattle.rules.specs.Words.{if◌then◌else◌}
 use Rattle.laws.proofs.Choice.{if_yes, split}
 use Rattle.charging.specs.Charge.{counted_on}
 use Rattle.charging.proofs.more.Goals as goal

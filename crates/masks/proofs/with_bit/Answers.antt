@@ -1,7 +1,6 @@
 -- `masks::with_bit` meets its contract.
 -- Assumes nothing.
 use native.Mathlib.Omega.{arith}
-use borrow.Author.Rules.{rules}
 use Rattle.masks.proofs.with_bit.Goals as goal
 
 pub returns-then-bit : goal.returns-then-bit

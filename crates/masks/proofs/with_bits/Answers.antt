@@ -2,14 +2,10 @@
 -- what is left of the variables.
 -- Assumes nothing.
 use mathlib.Core.Path.{◌≡◌, ◌∙◌}
-use mathlib.Core.Bool.{false}
-use Prim.Native.Nat.{◌-◌, ◌≤◌}
 use native.Mathlib.Omega.{arith}
 use borrow.Author.Rules.{rules}
-use lib.ListN.{get_or}
 use Rattle.rules.specs.Names.{variables}
-use Rattle.laws.proofs.Filled.{filled, filled_none, filled_more, filled_all}
-use Rattle.masks.specs.Masks.{with_bit}
+use Rattle.laws.proofs.Filled.{filled_none, filled_more, filled_all}
 use Rattle.masks.proofs.with_bits.Goals as goal
 
 pub loop-v-init : goal.loop-v-init

@@ -1,14 +1,12 @@
 -- `masks::with_bits` meets its contract. The loop's invariant: the masks of the variables passed are in the row. The measure is
 -- what is left of the variables.
 -- Assumes nothing.
-use mathlib.Core.Path.{◌≡◌, ◌∙◌}
+use mathlib.Core.Path.{◌≡◌}
 use mathlib.Core.Bool.{false}
 use Prim.Native.Nat.{◌-◌, ◌≤◌}
-use native.Mathlib.Omega.{arith}
-use borrow.Author.Rules.{rules}
 use lib.ListN.{get_or}
 use Rattle.rules.specs.Names.{variables}
-use Rattle.laws.proofs.Filled.{filled, filled_none, filled_more, filled_all}
+use Rattle.laws.proofs.Filled.{filled}
 use Rattle.masks.specs.Masks.{with_bit}
 use Rattle.masks.proofs.with_bits.Given as goal
 

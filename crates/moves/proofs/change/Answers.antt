@@ -5,7 +5,6 @@ use borrow.Author.Tests.{eq-eqb, ne_eqb}
 use Rattle.rules.specs.Names.{SET}
 use Rattle.record.specs.View.{as_record}
 use Rattle.values.proofs.Looks.{assigned_looks}
-use borrow.Author.Rules.{rules}
 use Rattle.moves.proofs.change.Goals as goal
 
 pub returns-then-r-eq-SET : goal.returns-then-r-eq-SET

@@ -8,7 +8,6 @@ use Rattle.rules.specs.Start.{initial_run}
 use Rattle.record.specs.View.{as_record}
 use Rattle.values.proofs.Looks.{assigned_looks}
 use Rattle.moves.proofs.Turns.{initial_turn, initial_past}
-use borrow.Author.Rules.{rules}
 use Rattle.moves.proofs.initial_run.Goals as goal
 
 pub loop-left-init : goal.loop-left-init

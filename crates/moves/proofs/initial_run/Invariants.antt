@@ -1,14 +1,8 @@
 -- `moves::initial_run` meets its contract. The loop's invariant: what is left to run from here is the whole run. The measure is the
 -- number of records left.
 -- Assumes nothing.
-use mathlib.Core.Path.{◌≡◌, refl, ◌∙◌}
-use Prim.Native.Nat.{◌-◌}
-use native.Mathlib.Omega.{arith}
+use mathlib.Core.Path.{◌≡◌}
 use Rattle.rules.specs.Start.{initial_run}
-use Rattle.record.specs.View.{as_record}
-use Rattle.values.proofs.Looks.{assigned_looks}
-use Rattle.moves.proofs.Turns.{initial_turn, initial_past}
-use borrow.Author.Rules.{rules}
 use Rattle.moves.proofs.initial_run.Given as goal
 
 abbrev pub invariant-loop-left : goal.invariant-loop-left

@@ -2,11 +2,9 @@
 -- number of records that may still be run.
 -- Assumes nothing.
 use mathlib.Core.Path.{◌≡◌, refl, sym, ◌∙◌}
-use Prim.Native.Nat.{◌-◌, ◌^◌, ◌<◌}
+use Prim.Native.Nat.{◌-◌}
 use native.Mathlib.Omega.{arith}
-use Rattle.rules.specs.Records.{list_count}
 use Rattle.rules.specs.Move.{body_run}
-use Rattle.laws.specs.Narrow.{narrow}
 use Rattle.laws.proofs.Bodies.{body_leaves}
 use Rattle.moves.proofs.Turns.{body_turn}
 use borrow.Author.Rules.{rules}

@@ -1,15 +1,11 @@
 -- `moves::run_body` meets its contract. The loop's invariant: what is left to run from here is the whole body. The measure is the
 -- number of records that may still be run.
 -- Assumes nothing.
-use mathlib.Core.Path.{◌≡◌, refl, sym, ◌∙◌}
-use Prim.Native.Nat.{◌-◌, ◌^◌, ◌<◌}
-use native.Mathlib.Omega.{arith}
+use mathlib.Core.Path.{◌≡◌}
+use Prim.Native.Nat.{◌^◌, ◌<◌}
 use Rattle.rules.specs.Records.{list_count}
 use Rattle.rules.specs.Move.{body_run}
 use Rattle.laws.specs.Narrow.{narrow}
-use Rattle.laws.proofs.Bodies.{body_leaves}
-use Rattle.moves.proofs.Turns.{body_turn}
-use borrow.Author.Rules.{rules}
 use Rattle.moves.proofs.run_body.Given as goal
 
 abbrev pub invariant-loop-left : goal.invariant-loop-left

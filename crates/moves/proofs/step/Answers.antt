@@ -4,7 +4,6 @@ use borrow.Author.Tests.{eq-eqb, ne_eqb}
 use Rattle.rules.specs.Names.{AWAIT}
 use Rattle.rules.specs.Move.{step_vars, step_position}
 use Rattle.laws.proofs.Narrow.{narrow_count}
-use borrow.Author.Rules.{rules}
 use Rattle.moves.proofs.step.Goals as goal
 
 pub returns-then-e-eq-AWAIT : goal.returns-then-e-eq-AWAIT
@@ -18,5 +17,5 @@ pub returns : goal.returns
 unfolding step_vars step_position
 returns c =
     let found = c.narrowed-e.ensures in
-    let is-not = ne_eqb _ AWAIT c.if-e-eq-AWAIT.false in
-    (rw (← found, is-not) c.target_after-next.ensures, rw (← found, is-not) c.change.ensures)
+    let is_not = ne_eqb _ AWAIT c.if-e-eq-AWAIT.false in
+    (rw (← found, is_not) c.target_after-next.ensures, rw (← found, is_not) c.change.ensures)

@@ -11,7 +11,6 @@ use Rattle.rules.specs.Names.{IF, WHILE}
 use Rattle.rules.specs.Values.{holds}
 use Rattle.record.specs.View.{as_record}
 use Rattle.values.proofs.Looks.{holds_looks}
-use borrow.Author.Rules.{rules}
 use Rattle.moves.proofs.target_after.Goals as goal
 use Rattle.moves.proofs.target_after.Goals.{After-holds-holds}
 

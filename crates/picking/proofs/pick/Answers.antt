@@ -1,26 +1,17 @@
 -- `picking::pick` meets its contract. Assumes nothing.
-use mathlib.Core.Bool.{Bool, false}
-use mathlib.Core.List.{List}
 use mathlib.Core.Path.{◌≡◌, ◌∙◌}
-use mathlib.Core.Logic.{inl, inr, ⊎_elim}
-use Prim.Native.Nat.{ℕ, ◌≤◌, ◌<◌, min}
+use mathlib.Core.Logic.{inl, inr}
+use Prim.Native.Nat.{◌≤◌, ◌<◌, min}
 use native.Mathlib.Omega.{arith}
 use mir.Syntax.{w16}
 use mir.ValLaws.{to_z-of_z}
-use lib.Dec.{eqb}
-use lib.IntN.{ℤ}
-use lib.ListN.{get_or, set, replicate}
 use borrow.Author.Rules.{rules}
-use borrow.Author.Tests.{le-leb, leb-true, leb-false, eq-eqb, ne_eqb}
-use Rattle.rules.specs.Words.{changed, judge, refusal}
+use borrow.Author.Tests.{le-leb, eq-eqb, ne_eqb}
+use Rattle.rules.specs.Words.{judge, refusal}
 use Rattle.rules.specs.Names.{max_stations}
-use Rattle.rules.specs.Records.{list_record_at}
-use Rattle.rules.specs.State.{position_in, priority_in}
-use Rattle.rules.specs.Move.{step_vars, step_position}
+use Rattle.rules.specs.State.{priority_in}
 use Rattle.rules.specs.Step.{pick_tests}
 use Rattle.laws.specs.Narrow.{narrow}
-use Rattle.charging.specs.Charge.{held_charge, held_count}
-use Rattle.stations.specs.Places.{ready_from}
 use Rattle.picking.specs.Took.{state_of, took}
 use Rattle.picking.proofs.Judged.{told_here, judged, charged, counted}
 use Rattle.picking.proofs.pick.Goals as goal
@@ -32,7 +23,7 @@ unfolding judge took
 returns-then-n-station c =
     let a = c.args in
     let past : min a.n max_stations ≤ a.station = elim c.then-n-station.branch [
-      then-n-station-via-then-n-station w ↦ omega arith
+      | then-n-station-via-then-n-station w ↦ omega arith
       | then-n-station-via-else-n-station+then-at-ge-MAX_STATIONS w ↦ omega arith
     ] in
     rw (le-leb _ _ past)
@@ -50,7 +41,7 @@ number c =
     ∙ judged a.list.now a.vars.now a.positions.now a.priorities.now a.counts.now a.n a.b (record { station = a.station; reset = a.reset }) ready
     (told_here a.list.now a.vars.now a.positions.now a.priorities.now a.counts.now a.n a.b (record { station = a.station; reset = a.reset }) ready here
     (elim c.if-all-at.branch [
-      then-all-at w ↦ inl (w.if-all-at.true, w.told-is)
+      | then-all-at w ↦ inl (w.if-all-at.true, w.told-is)
       | else-all-at w ↦ inr (w.if-all-at.false, w.told-is ∙ w.told_from-told.ensures)
     ]))
     (rw own at c.judge-lowest.ensures.1)

@@ -26,7 +26,7 @@ returns c =
     let a = c.args in
     let no : (eqb a.station undo_station && eqb a.reset 0) ≡ false =
     elim c.if-station-eq-UNDO.branch [
-      then-station-eq-UNDO+else-reset-eq0 w ↦ not_both_right (eqb a.station undo_station) _ (ne_eqb _ _ w.if-reset-eq0.false)
+      | then-station-eq-UNDO+else-reset-eq0 w ↦ not_both_right (eqb a.station undo_station) _ (ne_eqb _ _ w.if-reset-eq0.false)
       | else-station-eq-UNDO w ↦ not_both_left _ (eqb a.reset 0) (ne_eqb _ _ w.if-station-eq-UNDO.false)
     ]
     in

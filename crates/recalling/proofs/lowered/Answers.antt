@@ -12,8 +12,8 @@ use Rattle.rules.specs.Kept.{lowered}
 use Rattle.laws.proofs.Choice.{by_test}
 use Rattle.recalling.proofs.lowered.Goals as goal
 
-lowered-fits : (x : ℕ) → x < 65536 → SFits w16 (lowered x)
-lowered-fits x below =
+lowered_fits : (x : ℕ) → x < 65536 → SFits w16 (lowered x)
+lowered_fits x below =
     by_test (ltb x 32768)
     (λ e. rw e (record { sfits = omega (arith, ltb-true x 32768 e) }))
     (λ e. rw e (record { sfits = omega (arith, ltb-false x 32768 e) }))
@@ -23,7 +23,7 @@ taken : (x : ℕ) → x < 65536 → to_z w32 x -ℤ pos 32768 ≡ lowered x
 taken x below = rw (to_z_pos w32 x (omega arith))
 
 wider : (x : ℕ) → x < 65536 → SFits w32 (lowered x)
-wider x below = let fits = lowered-fits x below in record { sfits = omega arith }
+wider x below = let fits = lowered_fits x below in record { sfits = omega arith }
 
 pub overflow_sub-result : goal.overflow_sub-result
 overflow_sub-result c = rw (taken c.args.x c.ranges.x.fits) (wider c.args.x c.ranges.x.fits)
@@ -32,10 +32,10 @@ pub overflow_cast-result-2 : goal.overflow_cast-result-2
 overflow_cast-result-2 c =
     let x = c.args.x in
     let below = c.ranges.x.fits in
-    rw (taken x below, to_z-of_z w32 (lowered x) (wider x below)) (lowered-fits x below)
+    rw (taken x below, to_z-of_z w32 (lowered x) (wider x below)) (lowered_fits x below)
 
 pub returns : goal.returns
 returns c =
     let x = c.args.x in
     let below = c.ranges.x.fits in
-    rw (taken x below, to_z-of_z w32 (lowered x) (wider x below), to_z-of_z w16 (lowered x) (lowered-fits x below))
+    rw (taken x below, to_z-of_z w32 (lowered x) (wider x below), to_z-of_z w16 (lowered x) (lowered_fits x below))

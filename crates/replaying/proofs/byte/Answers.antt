@@ -1,6 +1,5 @@
 -- `replaying::byte` meets its contract. Assumes nothing.
 use mathlib.Core.Path.{sym}
-use borrow.Author.Rules.{rules}
 use lib.ListN.{get_or-eq_default}
 use Rattle.replaying.proofs.byte.Goals as goal
 

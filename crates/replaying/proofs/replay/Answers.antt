@@ -1,10 +1,8 @@
 -- `replaying::replay` meets its contract. The loop's invariant: the records to come, on the parts as they are, answer what all of them do on
 -- those given. The measure is what is left of the count.
 -- Assumes nothing.
-use Prim.Native.Nat.{◌+◌}
 use mathlib.Core.Path.{◌≡◌, refl, sym, ◌∙◌}
 use native.Mathlib.Omega.{arith}
-use borrow.Author.Rules.{rules}
 use Rattle.picking.specs.Took.{Took}
 use Rattle.replaying.specs.Replayed.{took_from}
 use Rattle.replaying.proofs.Records.{from_taken, from_refused}

@@ -2,12 +2,8 @@
 -- those given. The measure is what is left of the count.
 -- Assumes nothing.
 use Prim.Native.Nat.{◌+◌}
-use mathlib.Core.Path.{◌≡◌, refl, sym, ◌∙◌}
-use native.Mathlib.Omega.{arith}
-use borrow.Author.Rules.{rules}
-use Rattle.picking.specs.Took.{Took}
+use mathlib.Core.Path.{◌≡◌}
 use Rattle.replaying.specs.Replayed.{took_from}
-use Rattle.replaying.proofs.Records.{from_taken, from_refused}
 use Rattle.replaying.proofs.replay.Given as goal
 
 abbrev pub invariant-loop-left : goal.invariant-loop-left

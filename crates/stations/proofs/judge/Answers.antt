@@ -1,10 +1,9 @@
 -- `stations::judge` meets its contract. The loop's invariant: the stations passed are filled in, and it is known whether none of them is
 -- ready and lower. The measure is what is left of the stations.
 -- Assumes nothing.
-use Prim.Native.Nat.{◌+◌, ◌-◌, ◌≤◌, min}
+use Prim.Native.Nat.{◌+◌, min}
 use mathlib.Core.Path.{◌≡◌, refl, sym, ap, ◌∙◌}
 use mathlib.Core.Bool.{false, not}
-use mathlib.Core.Logic.{⊎_elim}
 use native.Mathlib.Omega.{arith}
 use mir.Syntax.{w16}
 use mir.Val.{to_z, of_z}
@@ -13,11 +12,9 @@ use borrow.Author.Rules.{rules}
 use borrow.Author.Tests.{ltb-true, ltb-false}
 use Rattle.rules.specs.Words.{each, changed}
 use Rattle.rules.specs.Names.{max_stations}
-use Rattle.rules.specs.State.{position_in, priority_in}
-use Rattle.rules.specs.Turn.{yields_to}
+use Rattle.rules.specs.State.{priority_in}
 use Rattle.laws.proofs.Changed.{changed_turn}
 use Rattle.laws.proofs.Places.{each_not, each_more}
-use Rattle.stations.specs.Places.{ready_from}
 use Rattle.stations.proofs.Lower.{yields_not_lower}
 use Rattle.stations.proofs.judge.Goals as goal
 use Rattle.stations.proofs.judge.Goals.{then-ready+then-priorities-j, else-ready, else-ready-via-then-ready+else-priorities-j, else-ready-via-else-ready}
@@ -35,13 +32,13 @@ loop-j-preserved c =
       omega (arith, ltb-true),
       changed_turn _ _ _ _ _ false c.loop-j.invariant.1 c.ready_from-ready.ensures,
       elim c.if-ready.branch [
-        then-ready+then-priorities-j w ↦
+        | then-ready+then-priorities-j w ↦
             w.lowest-is ∙ sym (each_not _ (c.loop-j.j + 1) c.loop-j.j (omega arith)
             (yields_not_lower own other (search rules) (ready ∙ w.if-ready.true) ∙ ap not w.if-priorities-j.true))
         | else-ready w ↦
             w.lowest-is ∙ c.loop-j.invariant.2 ∙ sym (each_more _ c.loop-j.j
             (elim w.else-ready.branch [
-              else-ready-via-then-ready+else-priorities-j v ↦
+              | else-ready-via-then-ready+else-priorities-j v ↦
                   yields_not_lower own other (search rules) (ready ∙ v.if-ready.true) ∙ ap not v.if-priorities-j.false
               | else-ready-via-else-ready v ↦ rw (ready ∙ v.if-ready.false)
             ]))

@@ -1,24 +1,13 @@
 -- `stations::judge` meets its contract. The loop's invariant: the stations passed are filled in, and it is known whether none of them is
 -- ready and lower. The measure is what is left of the stations.
 -- Assumes nothing.
-use Prim.Native.Nat.{◌+◌, ◌-◌, ◌≤◌, min}
-use mathlib.Core.Path.{◌≡◌, refl, sym, ap, ◌∙◌}
-use mathlib.Core.Bool.{false, not}
-use mathlib.Core.Logic.{⊎_elim}
-use native.Mathlib.Omega.{arith}
-use mir.Syntax.{w16}
-use mir.Val.{to_z, of_z}
-use mir.ValLaws.{to_z-of_z}
-use borrow.Author.Rules.{rules}
-use borrow.Author.Tests.{ltb-true, ltb-false}
+use Prim.Native.Nat.{◌-◌, ◌≤◌, min}
+use mathlib.Core.Path.{◌≡◌}
 use Rattle.rules.specs.Words.{each, changed}
 use Rattle.rules.specs.Names.{max_stations}
 use Rattle.rules.specs.State.{position_in, priority_in}
 use Rattle.rules.specs.Turn.{yields_to}
-use Rattle.laws.proofs.Changed.{changed_turn}
-use Rattle.laws.proofs.Places.{each_not, each_more}
 use Rattle.stations.specs.Places.{ready_from}
-use Rattle.stations.proofs.Lower.{yields_not_lower}
 use Rattle.stations.proofs.judge.Given as goal
 
 abbrev pub invariant-loop-j : goal.invariant-loop-j

@@ -1,17 +1,13 @@
 -- `stations::ready` meets its contract. The loop's invariant: the stations passed are filled in. The measure is what is left of them.
 -- Assumes nothing.
 use Prim.Native.Nat.{◌-◌, ◌≤◌, min}
-use mathlib.Core.Path.{◌≡◌, refl, ap, ◌∙◌}
+use mathlib.Core.Path.{◌≡◌}
 use mathlib.Core.Bool.{false}
-use native.Mathlib.Omega.{arith}
 use lib.ListN.{replicate}
-use borrow.Author.Rules.{rules}
-use borrow.Author.Tests.{ltb-true, ltb-false}
 use Rattle.rules.specs.Words.{changed}
 use Rattle.rules.specs.Names.{max_stations}
 use Rattle.rules.specs.State.{position_in}
 use Rattle.rules.specs.Ready.{says_ready}
-use Rattle.laws.proofs.Changed.{changed_turn}
 use Rattle.stations.specs.Places.{readiness_by}
 use Rattle.stations.proofs.ready.Given as goal
 

@@ -1,6 +1,5 @@
 -- `stations::ready_from` meets its contract. Assumes nothing.
 use mathlib.Core.Path.{ap, ◌∙◌}
-use borrow.Author.Rules.{rules}
 use Rattle.rules.specs.Ready.{says_ready}
 use Rattle.stations.proofs.ready_from.Goals as goal
 

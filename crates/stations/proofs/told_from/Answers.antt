@@ -1,6 +1,5 @@
 -- `stations::told_from` meets its contract. Assumes nothing.
 use mathlib.Core.Path.{ap, ◌∙◌}
-use borrow.Author.Rules.{rules}
 use Rattle.rules.specs.Words.{Answer}
 use Rattle.rules.specs.Ready.{told}
 use Rattle.stations.proofs.told_from.Goals as goal

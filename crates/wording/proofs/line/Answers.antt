@@ -10,7 +10,6 @@ use mathlib.Core.Path.{◌∙◌}
 use native.Mathlib.Omega.{arith}
 use lib.ListN.{length-append}
 use lib.Seq.{take_all}
-use borrow.Author.Rules.{rules}
 use Rattle.wording.proofs.line.Goals as goal
 
 pub returns : goal.returns

@@ -5,7 +5,6 @@ use Rattle.rules.specs.Trace.{decimal}
 use Rattle.wording.specs.Wording.{ascii, shown}
 use Rattle.wording.proofs.Lengths.{length_shown}
 use native.Mathlib.Omega.{arith}
-use borrow.Author.Rules.{rules}
 use Rattle.wording.proofs.shown.Goals as goal
 
 pub returns : goal.returns

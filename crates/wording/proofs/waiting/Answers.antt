@@ -11,7 +11,6 @@ use Prim.Native.Nat.{◌≤◌, ◌<◌}
 use native.Mathlib.Omega.{arith}
 use lib.ListN.{length, take}
 use borrow.Author.Tests.{eq-eqb, ne_eqb}
-use borrow.Author.Rules.{rules}
 use Rattle.wording.proofs.waiting.Goals as goal
 use Rattle.wording.proofs.waiting.Goals.{After-shown-one}
 

@@ -4,9 +4,7 @@ use mathlib.Core.Path.{◌≡◌, refl, ◌∙◌}
 use Prim.Native.Nat.{ℕ, ◌+◌, ◌-◌, ◌≤◌, ◌<◌, min}
 use native.Mathlib.Nat.{min-le_right}
 use native.Mathlib.Omega.{arith}
-use borrow.Author.Rules.{rules}
 use Rattle.rules.specs.Names.{max_stations}
-use Rattle.rules.specs.State.{State}
 use Rattle.stations.proofs.Known.{ready_known}
 use Rattle.touches.specs.Touched.{touched_by}
 use Rattle.masks.specs.Masks.{state_of, masks_from}
@@ -49,7 +47,7 @@ loop-j-preserved c =
     let in_turn =
     turn_known list s {turn = c.if-ready.in_turn} a.n j refl c.ready-all.ensures
     (elim c.if-ready.branch [
-      then-ready w ↦ rw (w.if-ready.true, w.in_turn-is) w.lowest_of-in_turn.ensures
+      | then-ready w ↦ rw (w.if-ready.true, w.in_turn-is) w.lowest_of-in_turn.ensures
       | else-ready w ↦ rw (w.in_turn-is, w.if-ready.false)
     ]) in
     let so_far : c.loop-j.masks ≡ masks_from list s (j + 1) = rw back c.loop-j.invariant.1 in (

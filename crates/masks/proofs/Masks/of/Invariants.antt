@@ -1,17 +1,9 @@
 -- `masks::Masks::of` meets its contract. The loop's invariant: the masks of the stations from j on are gathered. The measure is j.
 -- Assumes nothing.
-use mathlib.Core.Path.{◌≡◌, refl, ◌∙◌}
-use mathlib.Core.Logic.{⊎_elim}
-use Prim.Native.Nat.{◌+◌, ◌-◌, ◌≤◌, ◌<◌, min}
-use native.Mathlib.Nat.{min-le_right}
-use native.Mathlib.Omega.{arith}
-use borrow.Author.Rules.{rules}
+use mathlib.Core.Path.{◌≡◌}
+use Prim.Native.Nat.{◌≤◌, min}
 use Rattle.rules.specs.Names.{max_stations}
-use Rattle.rules.specs.State.{State}
-use Rattle.stations.proofs.Known.{ready_known}
-use Rattle.touches.specs.Touched.{touched_by}
 use Rattle.masks.specs.Masks.{state_of, masks_from}
-use Rattle.masks.proofs.Stations.{turn_known, gathered_none, gathered_more, room}
 use Rattle.masks.proofs.Masks.of.Given as goal
 
 abbrev pub invariant-loop-j : goal.invariant-loop-j

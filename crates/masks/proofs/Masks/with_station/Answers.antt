@@ -1,6 +1,5 @@
 -- `masks::Masks::with_station` meets its contract: each mask takes the station's bit, for which it has room.
 -- Assumes nothing.
-use borrow.Author.Rules.{rules}
 use Rattle.masks.proofs.Masks.with_station.Goals as goal
 
 pub returns : goal.returns
