@@ -6,6 +6,7 @@ use Rattle.rules.specs.Asked.{asked}
 use Rattle.rules.specs.Why.{bare, said}
 use Rattle.run.specs.View.{as_state}
 use Rattle.explaining.proofs.Answers.{ended_said, waiting_said, second_fits, refused_said, ready_said}
+use Rattle.std.proofs.Common.{arith}
 use Rattle.explaining.proofs.why.Goals as goal
 use Rattle.explaining.proofs.why.Goals.{After-readiness-told}
 
@@ -32,7 +33,7 @@ pub returns-then-told-ne0 : goal.returns-then-told-ne0
 returns-then-told-ne0 c =
     let same = number (goal.at.returns-then-told-ne0 c).After-readiness-told in
     c.bare.ensures ∙ ap bare same
-    ∙ refused_said _ _ _ (λ e. c.if-told-eq-ENDED.false (same ∙ e)) (λ e. c.if-told-eq-NOT_READY.false (same ∙ e)) (λ e. c.if-told-ne0.true (same ∙ e))
+    ∙ refused_said _ _ _ (λ e. omega (arith, same, e)) (λ e. omega (arith, same, e)) (λ e. omega (arith, same, e))
 
 pub returns : goal.returns
 returns c =

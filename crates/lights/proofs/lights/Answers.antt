@@ -1,9 +1,6 @@
 -- `lights::lights` meets its contract: refused by the first test that fails, and else all masks.
 -- Assumes nothing.
 use mathlib.Core.Path.{sym, ◌∙◌}
-use borrow.Author.Rules.{rules}
-use borrow.Author.Tests.{not-true, not-false}
-use Rattle.laws.proofs.Sound.{sound_both}
 use Rattle.lights.proofs.Answers.{refused_list, refused_state, gathered_all}
 use Rattle.laws.specs.Passed.{Known}
 use Rattle.run.specs.View.{as_state}

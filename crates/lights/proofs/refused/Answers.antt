@@ -1,6 +1,5 @@
 -- `lights::refused` meets its contract.
 -- Assumes nothing.
-use borrow.Author.Rules.{rules}
 use Rattle.lights.proofs.refused.Goals as goal
 
 pub returns : goal.returns

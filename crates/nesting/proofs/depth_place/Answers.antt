@@ -6,17 +6,15 @@ use Prim.Native.Nat.{◌*◌}
 use native.Mathlib.Omega.{arith}
 use lib.Dec.{leb}
 use lib.ListN.{get_or}
+use mathlib.Core.Logic.{⊎_elim}
+use borrow.Author.Tests.{lt-leb}
 use borrow.Author.Rules.{rules}
 use Rattle.rules.specs.Names.{max_depth}
 use Rattle.rules.specs.Shape.{opens}
-use Rattle.laws.proofs.Choice.{both}
+use Rattle.laws.proofs.Choice.{both, not_both_left, not_both_right}
 use Rattle.nesting.proofs.Open.{deep_start, deep_end, deep_here, deep_on, deep_within}
 use Rattle.nesting.proofs.depth_place.Goals as goal
-use Rattle.nesting.proofs.depth_place.Goals.{
-  Joined-else-opens,
-  else-opens-via-then-opens+else-depth-ge-MAX_DEPTH,
-  else-opens-via-else-opens,
-}
+use Rattle.nesting.proofs.depth_place.Goals.{Joined-else-opens}
 
 pub loop-at-init : goal.loop-at-init
 loop-at-init c = (omega arith, omega arith, deep_start _)
@@ -25,11 +23,11 @@ loop-at-init c = (omega arith, omega arith, deep_start _)
 passed : (c : Joined-else-opens)
     → (opens (get_or c.args.file.now (8 * c.loop-at.at) 0) && leb max_depth c.loop-at.depth) ≡ false
 passed c =
-    let e = sym c.opens.ensures in
-    elim c.else-opens.branch [
-      | else-opens-via-then-opens+else-depth-ge-MAX_DEPTH w ↦ rw (e ∙ w.if-opens.true) (search rules)
-      | else-opens-via-else-opens w ↦ rw (e ∙ w.if-opens.false)
-    ]
+    let k = get_or c.args.file.now (8 * c.loop-at.at) 0 in
+    ⊎_elim
+    (λ w. not_both_right (opens k) _ (lt-leb max_depth c.loop-at.depth w.1))
+    (λ closed. not_both_left (opens k) _ (sym c.opens.ensures ∙ closed))
+    c.else-opens.either
 
 pub returns-then-depth-ge-MAX_DEPTH : goal.returns-then-depth-ge-MAX_DEPTH
 returns-then-depth-ge-MAX_DEPTH c =

@@ -6,7 +6,7 @@ use lib.Seq.{take_all, length-take-le}
 use Rattle.sizes.proofs.used.Goals as goal
 
 pub slice_bounds-result-end : goal.slice_bounds-result-end
-slice_bounds-result-end c = sym (length-take-le _ _ c.if-end-list.true)
+slice_bounds-result-end c = sym (length-take-le _ _ (omega arith))
 
 pub returns-else-end-list : goal.returns-else-end-list
 returns-else-end-list c =

@@ -48,7 +48,7 @@ returns-then-b-log c =
 
 pub loop-j-preserved : goal.loop-j-preserved
 loop-j-preserved c =
-    (search rules, below_more _ _ c.loop-j.invariant.1 (both (eq-eqb _ _ c.if-log-j.false) (le-leb _ _ c.if-b-log.false)))
+    (search rules, below_more _ _ c.loop-j.invariant.1 (both (eq-eqb _ _ (search rules)) (le-leb _ _ c.if-b-log.false)))
 
 pub returns : goal.returns
 returns c =
