@@ -1,7 +1,7 @@
 // What the programs over a folder share: a file is read, and a text is written.
 #![tactic(auto)]
 
-ghost use Rattle.std.specs.Prelude.{◌≤◌, length, take};
+ghost use Rattle.std.specs.Prelude.{◌≡◌, ◌≤◌, length, take};
 ghost use Rattle.std.specs.Io.KnownBytes.{Consumes};
 
 use std::fs::File;
@@ -11,7 +11,7 @@ use text::Text;
 
 // Reads a file until the buffer is full, it ends or a read fails, and answers how many bytes came. One that cannot be opened counts as empty.
 pub fn read(rt: &impl Files, path: &[u8], buffer: &mut [u8]) -> usize
-    ensures { result ≤ length buffer.new }
+    ensures { (result ≤ length buffer.new) × (result ≡ length (take result buffer.new)) }
 {
     let Ok(path) = str::from_utf8(path) else {
         return 0;

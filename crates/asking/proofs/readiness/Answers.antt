@@ -2,12 +2,10 @@
 -- Assumes nothing.
 use mathlib.Core.Path.{sym, ap, ◌∙◌}
 use native.Mathlib.Omega.{arith}
-use borrow.Author.Rules.{rules}
-use borrow.Author.Tests.{not-true, not-false}
 use Rattle.rules.specs.Ready.{told}
 use Rattle.run.specs.View.{as_state}
 use Rattle.laws.specs.Passed.{Known}
-use Rattle.laws.proofs.Sound.{at_most_eight, sound_both}
+use Rattle.laws.proofs.Sound.{at_most_eight}
 use Rattle.asking.proofs.Answers.{refused_list, refused_state, refused_station, told_here}
 use Rattle.asking.proofs.readiness.Goals as goal
 use Rattle.asking.proofs.readiness.Goals.{Else-not-sound-2}

@@ -2,7 +2,6 @@
 use mathlib.Core.Path.{sym, ap, ◌∙◌}
 use Prim.Native.Nat.{◌≤◌}
 use native.Mathlib.Omega.{arith}
-use borrow.Author.Rules.{rules}
 use Rattle.rules.specs.Why.{because_behind}
 use Rattle.laws.proofs.Places.{first_within}
 use Rattle.explaining.proofs.of_ready.Goals as goal

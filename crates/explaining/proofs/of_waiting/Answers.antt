@@ -1,7 +1,6 @@
 -- `explaining::of_waiting` meets its contract: by the op one variable is named, or two. Assumes nothing.
 use mathlib.Core.Path.{ap}
 use native.Mathlib.Omega.{arith}
-use borrow.Author.Rules.{rules}
 use borrow.Author.Tests.{lt-ltb, le-ltb}
 use Rattle.rules.specs.Why.{because_waiting, because_waiting_two, waits_for}
 use Rattle.explaining.proofs.of_waiting.Goals as goal

@@ -1,6 +1,5 @@
 -- `explaining::why` meets its contract, by what the station's readiness tells. Assumes nothing.
 use mathlib.Core.Path.{◌≡◌, sym, ap, ◌∙◌}
-use borrow.Author.Rules.{rules}
 use Rattle.rules.specs.Words.{Answer}
 use Rattle.rules.specs.Asked.{asked}
 use Rattle.rules.specs.Why.{bare, said}

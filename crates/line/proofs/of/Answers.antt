@@ -1,7 +1,6 @@
 -- `line::of` meets its contract: the masks are the lights'. Assumes nothing.
 use Rattle.rules.specs.Trace.{line}
 use borrow.Author.Tests.{le-leb, lt-leb}
-use borrow.Author.Rules.{rules}
 use Rattle.line.proofs.of.Goals as goal
 
 pub returns-then-state-gt-MAX_STATIONS : goal.returns-then-state-gt-MAX_STATIONS

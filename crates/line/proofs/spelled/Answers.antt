@@ -6,7 +6,6 @@ use Rattle.rules.specs.Trace.{decimal, priorities_text, counts_text}
 use Rattle.run.specs.View.{as_state}
 use native.Mathlib.Omega.{arith}
 use Prim.Native.Nat.{◌<◌}
-use borrow.Author.Rules.{rules}
 use Rattle.line.proofs.spelled.Goals as goal
 use Rattle.line.proofs.spelled.Goals.{Start}
 

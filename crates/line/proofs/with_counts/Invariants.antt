@@ -1,20 +1,12 @@
 -- `line::with_counts` meets its contract. The loop's invariant: the counts of the stations passed are in the text. The measure is what is left
 -- of them. Assumes nothing.
 use Rattle.text.specs.View.{max_line, text_of}
-use Rattle.text.proofs.Texts.{put_whole}
-use Rattle.text.proofs.Digits.{length_decimal}
-use Rattle.line.proofs.Entries.{put_entry, length_next}
-use Rattle.rules.specs.State.{count}
-use Rattle.rules.specs.Trace.{decimal, entries_text, counts_text}
+use Rattle.rules.specs.Trace.{counts_text}
 use Rattle.run.specs.View.{as_state}
-use mathlib.Core.List.{◌++◌, append-nil}
-use mathlib.Core.Path.{◌≡◌, sym, ap, ◌∙◌}
+use mathlib.Core.List.{◌++◌}
+use mathlib.Core.Path.{◌≡◌}
 use Prim.Native.Nat.{◌≤◌, ◌-◌, ◌*◌}
-use native.Mathlib.Omega.{arith}
 use lib.ListN.{length, take}
-use mir.Syntax.{w16}
-use mir.Val.{Fits}
-use borrow.Author.Rules.{rules}
 use Rattle.line.proofs.with_counts.Given as goal
 
 abbrev pub invariant-loop-j : goal.invariant-loop-j

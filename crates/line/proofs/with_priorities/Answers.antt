@@ -5,13 +5,12 @@ use Rattle.text.proofs.Texts.{put_whole}
 use Rattle.text.proofs.Signed.{within}
 use Rattle.line.proofs.Entries.{put_entry, length_next, length_signed}
 use Rattle.rules.specs.State.{priority}
-use Rattle.rules.specs.Trace.{signed, entries_text, priorities_text}
+use Rattle.rules.specs.Trace.{signed, entries_text}
 use Rattle.run.specs.View.{as_state}
-use mathlib.Core.List.{◌++◌, append-nil}
+use mathlib.Core.List.{append-nil}
 use mathlib.Core.Path.{◌≡◌, sym, ap, ◌∙◌}
-use Prim.Native.Nat.{◌≤◌, ◌-◌, ◌*◌}
 use native.Mathlib.Omega.{arith}
-use lib.ListN.{length, take}
+use lib.ListN.{take}
 use mir.Syntax.{w16}
 use mir.Val.{SFits}
 use mir.ValLaws.{to_z-of_z}

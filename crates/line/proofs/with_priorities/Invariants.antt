@@ -1,21 +1,12 @@
 -- `line::with_priorities` meets its contract. The loop's invariant: the priorities of the stations passed are in the text. The measure
 -- is what is left of them. Assumes nothing.
 use Rattle.text.specs.View.{max_line, text_of}
-use Rattle.text.proofs.Texts.{put_whole}
-use Rattle.text.proofs.Signed.{within}
-use Rattle.line.proofs.Entries.{put_entry, length_next, length_signed}
-use Rattle.rules.specs.State.{priority}
-use Rattle.rules.specs.Trace.{signed, entries_text, priorities_text}
+use Rattle.rules.specs.Trace.{priorities_text}
 use Rattle.run.specs.View.{as_state}
-use mathlib.Core.List.{◌++◌, append-nil}
-use mathlib.Core.Path.{◌≡◌, sym, ap, ◌∙◌}
+use mathlib.Core.List.{◌++◌}
+use mathlib.Core.Path.{◌≡◌}
 use Prim.Native.Nat.{◌≤◌, ◌-◌, ◌*◌}
-use native.Mathlib.Omega.{arith}
 use lib.ListN.{length, take}
-use mir.Syntax.{w16}
-use mir.Val.{SFits}
-use mir.ValLaws.{to_z-of_z}
-use borrow.Author.Rules.{rules}
 use Rattle.line.proofs.with_priorities.Given as goal
 
 abbrev pub invariant-loop-j : goal.invariant-loop-j

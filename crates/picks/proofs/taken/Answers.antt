@@ -5,9 +5,7 @@ use Rattle.rules.specs.Names.{undo_station}
 use borrow.Author.Tests.{eq-eqb, ne_eqb}
 use lib.Dec.{eqb}
 use mathlib.Core.Bool.{true, false, ◌&&◌}
-use mathlib.Core.Logic.{⊎_elim}
 use mathlib.Core.Path.{◌≡◌}
-use borrow.Author.Rules.{rules}
 use Rattle.picks.proofs.taken.Goals as goal
 use Rattle.picks.proofs.taken.Goals.{then-station-eq-UNDO+else-reset-eq0, else-station-eq-UNDO}
 
