@@ -2,15 +2,11 @@
 -- from the beginning. The measure is how many pieces are left at most. Assumes nothing.
 use Rattle.rules.specs.Lent.{Lent}
 use Rattle.text.specs.View.{text_of}
-use Rattle.tracing.specs.Tracing.{left}
 use Rattle.tracing.specs.View.{as_tracing}
 use Rattle.tracing.proofs.Together.{left_falls}
-use Rattle.reaching.specs.Reaching.{reached_after, reached}
 use Rattle.reaching.proofs.Pieces.{same_after, come}
-use lib.ListN.{length}
-use mathlib.Core.Path.{◌≡◌, refl, sym, ◌∙◌}
+use mathlib.Core.Path.{refl, sym, ◌∙◌}
 use borrow.Author.Tests.{not-true, not-false}
-use borrow.Author.Rules.{rules}
 use Rattle.reaching.proofs.reach.Goals as goal
 
 pub loop-text-init : goal.loop-text-init

@@ -1,16 +1,11 @@
 -- `reaching::reach` meets its contract. The loop's invariant: the two buffers keep their lengths, and what the trace comes to is the same as
 -- from the beginning. The measure is how many pieces are left at most. Assumes nothing.
-use Rattle.rules.specs.Lent.{Lent}
 use Rattle.text.specs.View.{text_of}
 use Rattle.tracing.specs.Tracing.{left}
 use Rattle.tracing.specs.View.{as_tracing}
-use Rattle.tracing.proofs.Together.{left_falls}
 use Rattle.reaching.specs.Reaching.{reached_after, reached}
-use Rattle.reaching.proofs.Pieces.{same_after, come}
 use lib.ListN.{length}
-use mathlib.Core.Path.{◌≡◌, refl, sym, ◌∙◌}
-use borrow.Author.Tests.{not-true, not-false}
-use borrow.Author.Rules.{rules}
+use mathlib.Core.Path.{◌≡◌}
 use Rattle.reaching.proofs.reach.Given as goal
 
 abbrev pub invariant-loop-text : goal.invariant-loop-text

@@ -1,6 +1,5 @@
 -- `tracing::Tracer::next` meets its contract, by what comes next. Assumes nothing.
 use Rattle.tracing.specs.Tracing.{piece}
-use borrow.Author.Rules.{rules}
 use Rattle.tracing.proofs.Tracer.next.Goals as goal
 
 pub returns-in-Start : goal.returns-in-Start

@@ -2,7 +2,6 @@
 use Rattle.tracing.specs.Tracing.{pick_piece}
 use borrow.Author.Tests.{eq-eqb, ne_eqb, lt-ltb, le-ltb}
 use native.Mathlib.Numerals.{add-one}
-use borrow.Author.Rules.{rules}
 use Rattle.tracing.proofs.Tracer.pick.Goals as goal
 
 pub returns-then-picks-i : goal.returns-then-picks-i

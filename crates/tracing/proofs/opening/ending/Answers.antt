@@ -1,6 +1,5 @@
 -- `tracing::opening::ending` meets its contract.
 -- Assumes nothing.
-use borrow.Author.Rules.{rules}
 use Rattle.tracing.proofs.opening.ending.Goals as goal
 
 pub returns : goal.returns

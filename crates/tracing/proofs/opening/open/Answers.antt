@@ -2,7 +2,6 @@
 use Rattle.tracing.specs.Tracing.{opened}
 use Rattle.tracing.proofs.Opened.{opened_none, opened_some}
 use borrow.Author.Tests.{eq-eqb, ne_eqb}
-use borrow.Author.Rules.{rules}
 use Rattle.tracing.proofs.opening.open.Goals as goal
 
 pub returns-then-built-ne0 : goal.returns-then-built-ne0

@@ -1,6 +1,5 @@
 -- `tracing::order::after_start` meets its contract. Assumes nothing.
 use mathlib.Core.Path.{sym, ◌∙◌}
-use borrow.Author.Rules.{rules}
 use Rattle.tracing.proofs.order.after_start.Goals as goal
 
 pub returns-then-wrong : goal.returns-then-wrong
