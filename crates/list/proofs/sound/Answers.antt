@@ -4,6 +4,8 @@
 use borrow.Author.Tests.{le-leb, lt-leb, eq-eqb, ne_eqb}
 use Rattle.rules.specs.List.{sound_list}
 use Rattle.list.proofs.Given.{sound_given}
+use Rattle.std.proofs.Common.{◌/◌, ◌≤◌, length, arith}
+use Rattle.rules.specs.Names.{max_list, max_stations}
 use Rattle.list.proofs.sound.Goals as goal
 
 pub returns-then-list-ne0 : goal.returns-then-list-ne0
@@ -37,12 +39,14 @@ returns-then-n-gt-MAX_STATIONS c =
 
 pub returns : goal.returns
 returns c =
+    let few_records : length c.args.list.now / 16 ≤ max_list = omega arith in
+    let few_stations : c.stations-n.result ≤ max_stations = omega arith in
     rw (
       sound_given _ c.stations-n.ensures c.later-later.ensures,
       eq-eqb _ _ c.if-list-ne0.false,
-      le-leb _ _ c.if-list-gt-MAX_LIST.false,
+      le-leb _ _ few_records,
       le-leb _ _ c.if-n-lt1.false,
-      le-leb _ _ c.if-n-gt-MAX_STATIONS.false,
+      le-leb _ _ few_stations,
       c.each_init_right.ensures,
       c.each_initial_right.ensures,
       c.each_later_right.ensures,

@@ -41,7 +41,7 @@ unfolding logged judge
 returns-then-not-room c =
     let a = c.args in
     rw (
-      lt-leb max_steps a.m c.if-m-ge-MAX_STEPS.false,
+      lt-leb max_steps a.m (omega arith),
       lt-ltb (length a.log.now) (2 * (a.n + a.m + 1)) (leb-false _ _ (sym c.room.ensures ∙ c.if-not-room.true)),
     )
 
@@ -49,7 +49,7 @@ pub returns-then-kept : goal.returns-then-kept
 unfolding logged judge
 returns-then-kept c =
     rw (
-      lt-leb max_steps c.args.m c.if-m-ge-MAX_STEPS.false,
+      lt-leb max_steps c.args.m (omega arith),
       le-ltb _ _ (leb-true _ _ (sym c.room.ensures ∙ c.if-not-room.false)),
       lt-ltb _ (kept_length * max_kept) c.if-kept.true,
     )
@@ -59,10 +59,10 @@ returns-then-number-eq0 c =
     let a = c.args in
     let room = leb-true _ _ (sym c.room.ensures ∙ c.if-not-room.false) in
     let written = rw (le-leb _ _ room) at c.put.ensures in
-    let keeps = rw (placed a.m a.kept.now c.if-m-ge-MAX_STEPS.false c.if-kept.false) at c.keep.ensures in
+    let keeps = rw (placed a.m a.kept.now (omega arith) c.if-kept.false) at c.keep.ensures in
     past_taken _ _ _ _
     (room_there (of_parts a.vars.now a.positions.now a.priorities.now a.counts.now a.n a.b a.m) (record { log = a.log.now; kept = a.kept.now })
-    c.if-m-ge-MAX_STEPS.false room c.if-kept.false) c.pick-number.ensures c.if-number-eq0.true written keeps
+    (omega arith) room c.if-kept.false) c.pick-number.ensures c.if-number-eq0.true written keeps
 
 pub returns-else-number-eq0 : goal.returns-else-number-eq0
 returns-else-number-eq0 c =
@@ -70,4 +70,4 @@ returns-else-number-eq0 c =
     let room = leb-true _ _ (sym c.room.ensures ∙ c.if-not-room.false) in
     past_refused _ _ _ _
     (room_there (of_parts a.vars.now a.positions.now a.priorities.now a.counts.now a.n a.b a.m) (record { log = a.log.now; kept = a.kept.now })
-    c.if-m-ge-MAX_STEPS.false room c.if-kept.false) c.pick-number.ensures c.if-number-eq0.false
+    (omega arith) room c.if-kept.false) c.pick-number.ensures c.if-number-eq0.false

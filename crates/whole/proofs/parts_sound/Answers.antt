@@ -4,6 +4,8 @@ use mathlib.Core.Path.{sym, ◌∙◌}
 use borrow.Author.Tests.{le-leb, lt-leb, eq-eqb, ne_eqb}
 use Rattle.rules.specs.State.{sound_state}
 use Rattle.whole.proofs.Clauses.{sound_given}
+use Rattle.std.proofs.Common.{◌≤◌, arith}
+use Rattle.rules.specs.Names.{max_steps}
 use Rattle.whole.proofs.parts_sound.Goals as goal
 
 pub returns-then-n-count : goal.returns-then-n-count
@@ -17,19 +19,21 @@ returns-then-m-gt-MAX_STEPS c =
 
 pub returns-then-not-placed : goal.returns-then-not-placed
 returns-then-not-placed c =
+    let few : c.args.m ≤ max_steps = omega arith in
     rw (
       sound_given _ _ c.stations-count.ensures c.later.ensures,
       eq-eqb _ _ c.if-n-count.false,
-      le-leb _ _ c.if-m-gt-MAX_STEPS.false,
+      le-leb _ _ few,
       sym c.placed.ensures ∙ c.if-not-placed.true,
     )
 
 pub returns : goal.returns
 returns c =
+    let few : c.args.m ≤ max_steps = omega arith in
     rw (
       sound_given _ _ c.stations-count.ensures c.later.ensures,
       eq-eqb _ _ c.if-n-count.false,
-      le-leb _ _ c.if-m-gt-MAX_STEPS.false,
+      le-leb _ _ few,
       sym c.placed.ensures ∙ c.if-not-placed.false,
       c.bounded.ensures,
       c.few_low.ensures,
