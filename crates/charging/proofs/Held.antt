@@ -1,24 +1,40 @@
 -- A priority of 16 bits that loses 1; and the charge of priorities that are not as low as 16 bits go, and the counts of those that are not as
 -- high. Assumes nothing.
-use Prim.Native.Nat.{ℕ, zero, suc, ◌≤◌, ◌<◌}
-use mathlib.Core.Path.{◌≡◌, refl}
+use Rattle.std.specs.Prelude.{if◌then◌else◌}
+use Rattle.std.specs.Int.{saturate_signed}
+use Prim.Native.Nat.{ℕ, zero, suc, ◌+◌, ◌≤◌, ◌<◌, min}
+use mathlib.Core.Path.{◌≡◌, refl, ap}
 use mathlib.Core.Bool.{Bool, true, false, true≢false}
 use native.Mathlib.Omega.{arith}
 use mir.Syntax.{w16}
-use mir.Val.{SFits}
-use lib.Dec.{lit<}
-use lib.IntN.{ℤ, pos, negsuc, neg_ℤ, ◌-ℤ◌, -ℤ_one}
+use mir.Val.{SFits, bool_byte}
+use lib.Dec.{leb}
+use lib.IntN.{ℤ, pos, negsuc, neg_ℤ, ◌-ℤ◌, -ℤ_one, +ℤ_idr}
 use lib.Signed.{le_z}
-use borrow.Author.Tests.{leb-false, lt-leb}
+use borrow.Author.Tests.{leb-true, leb-false, lt-leb}
 use Rattle.rules.specs.Names.{max_stations}
 use Rattle.rules.specs.Turn.{charged, counted}
-use Rattle.charging.specs.Charge.{held_charge, held_count}
+use Rattle.laws.proofs.Choice.{by_test}
+use Rattle.charging.specs.Charge.{lowered, held_charge, counted_on, held_count}
 
--- one that is not as low as they go can lose 1
-pub sfits_pred : (p : ℤ) → SFits w16 p → le_z p (neg_ℤ (pos 32768)) ≡ false → SFits w16 (p -ℤ pos 1)
-sfits_pred (pos zero) fits above = rw -ℤ_one (record { sfits = lit< tt })
-sfits_pred (pos (suc a)) fits above = rw -ℤ_one (record { sfits = omega (arith, fits.sfits) })
-sfits_pred (negsuc a) fits above = rw -ℤ_one (record { sfits = omega (arith, leb-false 32767 a above) })
+-- one that saturates as it loses 1, or nothing
+pub lowers : (ready : Bool) (p : ℤ) → SFits w16 p → saturate_signed w16 (p -ℤ pos (bool_byte ready)) ≡ (if ready then lowered p else p)
+lowers true (pos zero) fits = rw -ℤ_one
+lowers true (pos (suc a)) fits = rw -ℤ_one (ap pos (omega (arith, fits.sfits)))
+lowers true (negsuc a) fits =
+    by_test (leb 32767 a)
+    (λ e. rw e (ap negsuc (omega (arith, fits.sfits, leb-true 32767 a e))))
+    (λ e. rw e (ap negsuc (omega (arith, leb-false 32767 a e))))
+lowers false (pos a) fits = ap pos (omega (arith, fits.sfits))
+lowers false (negsuc a) fits = rw +ℤ_idr (ap negsuc (omega (arith, fits.sfits)))
+
+-- and a count that gains 1, or nothing
+pub counts_on : (ready : Bool) (c : ℕ) → c < 65536 → min (c + bool_byte ready) 65535 ≡ (if ready then counted_on c else c)
+counts_on true c fits =
+    by_test (leb 65535 c)
+    (λ e. rw e (omega (arith, leb-true 65535 c e)))
+    (λ e. rw e (omega (arith, leb-false 65535 c e)))
+counts_on false c fits = omega arith
 
 -- above -n, with n at most 8, nothing is as low as they go
 not_low : (n : ℕ) (p : ℤ) → n ≤ max_stations → le_z p (neg_ℤ (pos n)) ≡ false → le_z p (neg_ℤ (pos 32768)) ≡ false

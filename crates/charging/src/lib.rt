@@ -2,15 +2,16 @@
 // A priority that is as low as 16 bits go stays where it would lose 1, and a count that is as high as they go where it would gain 1.
 #![tactic(auto)]
 
-ghost use Rattle.std.specs.Prelude.{◌≡◌, false, eqb, get_or, if◌then◌else◌};
+ghost use Rattle.std.specs.Prelude.{◌≡◌, false, eqb, get_or};
 ghost use Rattle.rules.specs.Words.{changed};
 ghost use Rattle.rules.specs.Names.{max_stations};
-ghost use Rattle.charging.specs.Charge.{lowered, held_charge, counted_on, held_count, unpicked, passed};
+ghost use Rattle.charging.specs.Charge.{held_charge, held_count, unpicked, passed};
 
 use record::Record;
 
 // Charges the priorities for a pick and counts those passed over, by the readiness of the stations before the step: each of the eight that was
 // ready loses 1 of its priority and gains 1 in its count, then the picked one, where it is one of them, gets the reset and the count 0.
+// It takes no pick: picked may be any number here. The two rows are those of the state that C reads.
 pub fn charge(
     priorities: &mut [i16; 8],
     counts: &mut [u16; 8],
@@ -33,10 +34,8 @@ pub fn charge(
 fn lower(priorities: &mut [i16; 8], ready: &[bool; 8])
     ensures { priorities.new ≡ changed (unpicked ready.now) max_stations priorities.old }
 {
-    let mut j: usize = 0;
-    while j < Record::MAX_STATIONS {
-        priorities[j] = less(priorities[j], ready[j]);
-        j += 1;
+    for (j, p) in priorities.iter_mut().enumerate() {
+        *p = p.saturating_sub(i16::from(ready[j]));
     }
 }
 
@@ -44,29 +43,7 @@ fn lower(priorities: &mut [i16; 8], ready: &[bool; 8])
 fn count(counts: &mut [u16; 8], ready: &[bool; 8])
     ensures { counts.new ≡ changed (passed ready.now) max_stations counts.old }
 {
-    let mut k: usize = 0;
-    while k < Record::MAX_STATIONS {
-        counts[k] = more(counts[k], ready[k]);
-        k += 1;
+    for (j, c) in counts.iter_mut().enumerate() {
+        *c = c.saturating_add(u16::from(ready[j]));
     }
-}
-
-// One less where the station was ready, as far as 16 bits go.
-fn less(p: i16, ready: bool) -> i16
-    ensures { result ≡ (if ready then lowered p else p) }
-{
-    if ready & (-32768 < p) {
-        return p - 1;
-    }
-    p
-}
-
-// One more where the station was ready, as far as 16 bits go.
-fn more(c: u16, ready: bool) -> u16
-    ensures { result ≡ (if ready then counted_on c else c) }
-{
-    if ready & (c < 65535) {
-        return c + 1;
-    }
-    c
 }

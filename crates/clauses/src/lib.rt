@@ -13,6 +13,7 @@ use record::{ListRecord, Record};
 use targets::{inside_targets, outside, outside_targets};
 
 // Whether the record at place j is station j's INIT.
+#[tactic(auto, unfolding(rules::specs::List::init_right))]
 pub fn init_right(list: &[u8], later: usize, j: usize) -> bool
     ensures { result ≡ init_right list.now later j }
 {
@@ -30,6 +31,7 @@ pub fn init_right(list: &[u8], later: usize, j: usize) -> bool
 }
 
 // Whether the record at place p is an initial SET.
+#[tactic(auto, unfolding(rules::specs::List::initial_right))]
 pub fn initial_right(list: &[u8], p: usize) -> bool
     ensures { result ≡ initial_right list.now p }
 {
@@ -57,30 +59,31 @@ fn own_right(own: Record) -> bool
 fn outside_kind(kind: u8) -> bool
     ensures { result ≡ among kind (SKIP ∷ SET ∷ IF ∷ WHILE ∷ AWAIT ∷ STOP ∷ []) }
 {
-    (kind == Record::SKIP)
-        | (kind == Record::SET)
-        | (kind == Record::IF)
-        | (kind == Record::WHILE)
-        | (kind == Record::AWAIT)
-        | (kind == Record::STOP)
+    matches!(
+        kind,
+        Record::SKIP | Record::SET | Record::IF | Record::WHILE | Record::AWAIT | Record::STOP
+    )
 }
 
 // Whether an inside record may have this kind.
 fn inside_kind(kind: u8) -> bool
     ensures { result ≡ among kind (SKIP ∷ SET ∷ IF ∷ []) }
 {
-    (kind == Record::SKIP) | (kind == Record::SET) | (kind == Record::IF)
+    matches!(kind, Record::SKIP | Record::SET | Record::IF)
 }
 
 // Whether the later record at place p is right, in a list of n stations: byte 9 says by which rules.
+#[tactic(auto, unfolding(rules::specs::List::later_right))]
 pub fn later_right(list: &[u8], n: usize, later: usize, p: usize) -> bool
     ensures { result ≡ later_right list.now n later p }
 {
     let e = ListRecord::at(list, p);
     let own = e.own;
     let fields = ((e.station as usize) < n) & own_right(own) & (e.spare == 0);
-    if e.inside == 0 {
-        return fields & (outside_kind(own.kind) & outside_targets(list, later, p, e));
-    }
-    fields & ((e.inside == 1) & inside_kind(own.kind) & inside_targets(list, later, p, e))
+    fields
+        & match e.inside {
+            0 => outside_kind(own.kind) & outside_targets(list, later, p, e),
+            1 => inside_kind(own.kind) & inside_targets(list, later, p, e),
+            _ => false,
+        }
 }

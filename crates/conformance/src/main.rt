@@ -11,29 +11,34 @@ use traces::TRACE;
 
 mod traces;
 
-// Reads a case, which begins with its call's number, and writes its line. It answers whether to go on: not at the end of the stream, at a
-// number that no call has, or where the line cannot be written.
-fn answer(rt: &impl Print, file: &mut impl Read) -> bool {
-    let call = vectors::byte(file);
-    if call == TRACE {
-        return traces::case(rt, file);
+// Reads a case, which begins with its call's number, and writes its line. It answers whether to go on: not at the end of the stream or at a
+// number that no call has.
+fn answer(rt: &impl Print, file: &mut impl Read) -> io::Result<bool> {
+    match vectors::byte(file) {
+        TRACE => {
+            traces::case(rt, file)?;
+            Ok(true)
+        }
+        call => vectors::answer(rt, file, call),
     }
-    vectors::answer(rt, file, call)
 }
 
-// Answers case after case. The loop has to end and nothing says that a stream does, so it counts down from a number that no stream uses up.
-fn answer_all(rt: &impl Print, file: &mut impl Read) {
-    let mut left = u64::MAX;
-    while left > 0 && answer(rt, file) {
-        left -= 1;
+// Answers case after case. The loop has to end and nothing says that a stream does, so it counts to a number that no stream reaches.
+fn answer_all(rt: &impl Print, file: &mut impl Read) -> io::Result<()> {
+    for _ in 0..u64::MAX {
+        if !answer(rt, file)? {
+            break;
+        }
     }
+    Ok(())
 }
 
 fn main(rt: HostRuntime) -> io::Result<()> {
     match File::open(&rt, "cases.bin") {
         Ok(file) => {
             let mut file = BufReader::new(rt.alloc(), file)?;
-            answer_all(&rt, &mut file);
+            // Where a line cannot be written, the lines end there, and no status says so.
+            let _ = answer_all(&rt, &mut file);
             Ok(())
         }
         Err(error) => eprintln!(rt; "cases.bin: {error}"),

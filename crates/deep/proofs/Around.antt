@@ -1,7 +1,6 @@
--- The parts that are open around another, as two rows have them: what closes each, and whether it stands in a body. Each has a statement,
--- the one that is open in it. Assumes nothing.
+-- The parts that are open around another, as the row has them, the innermost last. Assumes nothing.
 use mathlib.Core.Path.{◌≡◌, refl}
-use mathlib.Core.Bool.{Bool, false, ◌&&◌}
+use mathlib.Core.Bool.{false, ◌&&◌}
 use mathlib.Core.List.{List, [], ◌∷◌}
 use Prim.Native.Nat.{ℕ, zero, suc, ◌+◌, ◌-◌, ◌≤◌, ◌<◌}
 use native.Mathlib.Numerals.{add-one}
@@ -11,49 +10,34 @@ use lib.ListN.{length, get_or, set}
 use lib.Seq.{get_or-set_same, get_or-set_other}
 use borrow.Author.Tests.{ne_eqb}
 use Rattle.parts.specs.declared.Part.{Part}
-use Rattle.parts.specs.Strides.{opened, grown}
+use Rattle.parts.specs.Strides.{opened}
 use Rattle.deep.specs.Reading.{finished_part}
 
-unfoldable pub around : ℕ → List ℕ → List Bool → List Part
-around zero closes bodies = []
-around (suc k) closes bodies = grown (opened (get_or closes k 0) (get_or bodies k false)) ∷ around k closes bodies
+unfoldable pub around : ℕ → List Part → List Part
+around zero row = []
+around (suc k) row = get_or row k (opened 0 false) ∷ around k row
 
--- what is written past the rows' end changes nothing
-around_past : (k i : ℕ) (closes : List ℕ) (bodies : List Bool) (close : ℕ) (body : Bool) → k ≤ i
-    → around k (set closes i close) (set bodies i body) ≡ around k closes bodies
+-- what is written past the parts changes nothing
+around_past : (k i : ℕ) (row : List Part) (part : Part) → k ≤ i → around k (set row i part) ≡ around k row
 unfolding around
-around_past zero i closes bodies close body h = refl
-around_past (suc k) i closes bodies close body h =
-    rw (
-      get_or-set_other closes i k close 0 (λ e. omega arith),
-      get_or-set_other bodies i k body false (λ e. omega arith),
-      around_past k i closes bodies close body (omega arith),
-    )
+around_past zero i row part h = refl
+around_past (suc k) i row part h =
+    rw (get_or-set_other row i k part (opened 0 false) (λ e. omega arith), around_past k i row part (omega arith))
 
 -- a part more
-pub around_more : (k : ℕ) (closes : List ℕ) (bodies : List Bool) (part : Part) → k < length closes → k < length bodies
-    → around (k + 1) (set closes k part.close) (set bodies k part.body) ≡ grown part ∷ around k closes bodies
+pub around_more : (k : ℕ) (row : List Part) (part : Part) → k < length row → around (k + 1) (set row k part) ≡ part ∷ around k row
 unfolding around
-around_more k closes bodies part c b =
-    rw (
-      add-one,
-      get_or-set_same closes k part.close 0 c,
-      get_or-set_same bodies k part.body false b,
-      around_past k k closes bodies part.close part.body (omega arith),
-    )
+around_more k row part h =
+    rw (add-one, get_or-set_same row k part (opened 0 false) h, around_past k k row part (omega arith))
 
 -- a part fewer
-pub around_fewer : (k : ℕ) (closes : List ℕ) (bodies : List Bool) → (k ≡ 0 → ⊥)
-    → around k closes bodies ≡ grown (opened (get_or closes (k - 1) 0) (get_or bodies (k - 1) false)) ∷ around (k - 1) closes bodies
+pub around_fewer : (k : ℕ) (row : List Part) → (k ≡ 0 → ⊥) → around k row ≡ get_or row (k - 1) (opened 0 false) ∷ around (k - 1) row
 unfolding around
-around_fewer zero closes bodies some = absurd (some refl)
-around_fewer (suc k) closes bodies some =
-    let e : suc k - 1 ≡ k = omega arith in
-    rw e
+around_fewer zero row some = absurd (some refl)
+around_fewer (suc k) row some = let e : suc k - 1 ≡ k = omega arith in rw e
 
 -- a part is finished where none is around it and it has a statement
-pub around_finished : (part : Part) (k : ℕ) (closes : List ℕ) (bodies : List Bool)
-    → finished_part part (around k closes bodies) ≡ (eqb k 0 && part.begun)
+pub around_finished : (part : Part) (k : ℕ) (row : List Part) → finished_part part (around k row) ≡ (eqb k 0 && part.begun)
 unfolding around
-around_finished part zero closes bodies = refl
-around_finished part (suc k) closes bodies = rw (ne_eqb (suc k) 0 (λ e. omega arith))
+around_finished part zero row = refl
+around_finished part (suc k) row = rw (ne_eqb (suc k) 0 (λ e. omega arith))

@@ -1,5 +1,5 @@
-// Reading a part that lies deeper than an accepted file has, with no call for each part that is open: what closes it, and whether it stands
-// in a body, are kept in two rows, so that no file takes more stack than these.
+// Reading a part that lies deeper than an accepted file has, with no call for each part that is open: the parts around it are kept in one
+// row, so that no file takes more stack than this.
 #![tactic(auto)]
 
 ghost use Rattle.std.specs.Prelude.{◌≡◌, false, [], ◌*◌, ◌≤◌, length};
@@ -11,7 +11,7 @@ use parts::{Part, Stride};
 use record::Record;
 
 // What reading a part finds.
-#[derive(Clone, Copy)]
+#[derive(Clone, Copy, Debug, PartialEq, Eq)]
 pub enum Read {
     // The record at this place closes the part.
     Closed(usize),
@@ -33,41 +33,29 @@ pub fn reading(s: &[u8], part: Part) -> Read
 }
 
 // The same of no more records.
-fn read_few(s: &[u8], part: Part) -> Read
+fn read_few(s: &[u8], mut part: Part) -> Read
     requires { length s.now ≤ 8 * max_records }
     ensures { result ≡ reading part [] (kinds s.now) }
 {
-    let mut closes = [0u8; Record::MAX_RECORDS];
-    let mut bodies = [false; Record::MAX_RECORDS];
+    let mut around = [Part::opened(0, false); Record::MAX_RECORDS];
     let mut open: usize = 0;
-    let mut part = part;
-    let mut place: usize = 0;
-    while place < s.len() / 8 {
-        let next = place + 1;
+    for place in 0..s.len() / 8 {
         match part.stride(s[8 * place]) {
-            Stride::On(same) => {
-                part = same;
-                place = next;
-            }
+            Stride::On(same) => part = same,
             Stride::Into(inner) => {
-                closes[open] = part.close;
-                bodies[open] = part.body;
+                around[open] = part.grown();
                 open += 1;
                 part = inner;
-                place = next;
             }
             Stride::Out => {
                 if open == 0 {
                     return Read::Closed(place);
                 }
                 open -= 1;
-                part = Part::opened(closes[open], bodies[open]).grown();
-                place = next;
+                part = around[open];
             }
-            Stride::Off => {
-                return Read::Wrong(place);
-            }
+            Stride::Off => return Read::Wrong(place),
         }
     }
-    Read::Short((open == 0) & part.begun)
+    Read::Short(open == 0 && part.begun)
 }

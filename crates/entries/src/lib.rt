@@ -1,4 +1,4 @@
-// The records of a list, each from the numbers that it holds, and what is read on the way: an entry, one less, whether a kind is a step.
+// The records of a list, each from the numbers that it holds, and whether a kind is a step.
 #![tactic(auto)]
 
 ghost use Rattle.std.specs.Prelude.{◌≡◌, ◌-◌, get_or, [], ◌∷◌};
@@ -8,37 +8,7 @@ ghost use Rattle.rules.specs.Build.{bare, listed as listed_of};
 ghost use Rattle.record.specs.View.{as_record, as_list_record};
 ghost use Rattle.entries.specs.Entries.{end_of_file};
 
-use record::{ListRecord, Record};
-
-// One less, and 0 of 0.
-pub fn less(x: u16) -> u16
-    ensures { result ≡ x - 1 }
-{
-    if x == 0 {
-        return 0;
-    }
-    x - 1
-}
-
-// The same of a count.
-pub fn one_less(x: usize) -> usize
-    ensures { result ≡ x - 1 }
-{
-    if x == 0 {
-        return 0;
-    }
-    x - 1
-}
-
-// Entry number i; 0 past the last.
-pub fn entry(entries: &[u16], i: usize) -> u16
-    ensures { result ≡ get_or entries.now i 0 }
-{
-    if i < entries.len() {
-        return entries[i];
-    }
-    0
-}
+use record::{ListRecord, Record, entry};
 
 // A list record, with nothing in its spare bytes.
 pub fn listed(own: Record, station: u8, inside: u8, t1: u16, t2: u16) -> ListRecord
@@ -60,26 +30,19 @@ pub fn stop(station: u8) -> ListRecord
 {
     let own = Record {
         kind: Record::STOP,
-        a: 0,
-        b: 0,
-        op: 0,
-        k: 0,
+        ..Record::default()
     };
-    if station == 0 {
-        return listed(own, 0, 0, 0, 0);
-    }
-    let before = station - 1;
-    listed(own, before, 0, 0, 0)
+    listed(own, station.saturating_sub(1), 0, 0, 0)
 }
 
 // Whether a kind is SKIP, SET, IF, WHILE or AWAIT.
 pub fn is_step(kind: u8) -> bool
     ensures { result ≡ among kind (SKIP ∷ SET ∷ IF ∷ WHILE ∷ AWAIT ∷ []) }
 {
-    match kind {
-        Record::SKIP | Record::SET | Record::IF | Record::WHILE | Record::AWAIT => true,
-        _ => false,
-    }
+    matches!(
+        kind,
+        Record::SKIP | Record::SET | Record::IF | Record::WHILE | Record::AWAIT
+    )
 }
 
 // A STATION record, which the end of a file is laid out as.
@@ -88,10 +51,7 @@ pub fn end_of_file() -> Record
 {
     Record {
         kind: Record::STATION,
-        a: 0,
-        b: 0,
-        op: 0,
-        k: 0,
+        ..Record::default()
     }
 }
 
@@ -102,10 +62,7 @@ pub fn init(j: u8, starts: [u16; 8]) -> ListRecord
     let own = Record {
         kind: Record::INIT,
         a: j,
-        b: 0,
-        op: 0,
-        k: 0,
+        ..Record::default()
     };
-    let start = entry(&starts, j as usize);
-    listed(own, j, 0, start, 0)
+    listed(own, j, 0, entry(&starts, j as usize, 0), 0)
 }

@@ -1,39 +1,31 @@
 // What a panel asks of a station that was not picked: why not, of any list and any state whatever.
 #![tactic(auto)]
 
-ghost use Rattle.std.specs.Prelude.{◌≡◌, false, ◌&&◌, ◌≤◌, ◌<◌, get_or, if◌then◌else◌};
-ghost use Rattle.rules.specs.Words.{first};
+ghost use Rattle.std.specs.Prelude.{◌≡◌, ◌≤◌, ◌<◌};
+ghost use Rattle.rules.specs.Names.{max_stations};
 ghost use Rattle.rules.specs.Records.{list_record_at};
-ghost use Rattle.rules.specs.State.{priority_in};
-ghost use Rattle.rules.specs.Turn.{lowest_of};
-ghost use Rattle.rules.specs.Why.{because_behind, may_be_picked, waits_for};
-ghost use Rattle.run.specs.View.{as_state};
+ghost use Rattle.rules.specs.Ready.{is_ready};
+ghost use Rattle.rules.specs.Why.{reason_by, waits_for};
+ghost use Rattle.state.specs.View.{as_state};
 ghost use Rattle.reason.specs.View.{as_reason};
 ghost use Rattle.explaining.specs.Promises.{WhyPromise};
 
+use readiness::Readiness;
 use reason::{Reason, Seen, Why};
-use record::{ListRecord, Record};
-use run::State;
+use record::ListRecord;
+use state::State;
 
-// Why a station was not picked, by what its readiness tells. Refused, all zeros but the number: LIST where the list is not sound, STATE where
-// the state is not, COMPONENT where there is no such station.
+// Why a station was not picked, by its readiness. Refused, all zeros but the number: LIST where the list is not sound, STATE where the state is
+// not, COMPONENT where there is no such station.
 pub fn why(state: State, list: &[u8], station: u8) -> Why
     ensures { WhyPromise list.now (as_state state) station result }
 {
-    let told = asking::readiness(state, list, station);
-    if told.number == Record::ENDED {
-        return Reason::Ended.said();
+    match asking::asked(&state, list, station) {
+        Ok(Readiness::Ended) => Why::from(Reason::Ended),
+        Ok(Readiness::Waiting(place)) => Why::from(of_waiting(list, &state.vars, place)),
+        Ok(Readiness::Ready) => Why::from(of_ready(list, &state, station)),
+        Err(refusal) => Why::bare(refusal.number()),
     }
-    if told.number == Record::NOT_READY {
-        return of_waiting(list, &state.vars, told.place).said();
-    }
-    if told.number != 0 {
-        return Why::bare(told.number);
-    }
-    let positions = state.positions;
-    let priorities = state.priorities;
-    let all = stations::ready(list, &state.vars, positions, state.n as usize);
-    of_ready(all, priorities, state.n, station).said()
 }
 
 // The reason of a station that waits at this place, by the variables that the condition there names. A condition against a variable has a k that
@@ -50,14 +42,16 @@ fn of_waiting(list: &[u8], vars: &[u32; 32], place: u16) -> Reason
     Reason::WaitingTwo(place, first, Seen::of(vars, own.k as u8))
 }
 
-// The reason of a station that is ready, where that is known of all: it may be picked, or it is behind the first in turn.
-fn of_ready(all: [bool; 8], priorities: [i16; 8], n: u8, station: u8) -> Reason
-    ensures { as_reason result ≡ (if lowest_of n (λ j. get_or all j false) (priority_in priorities) station then may_be_picked else because_behind (first (λ i. get_or all i false && lowest_of n (λ j. get_or all j false) (priority_in priorities) i) n)) }
+// The reason of a station that is ready: it may be picked, or it is behind the first in turn, which there is since it is ready itself.
+fn of_ready(list: &[u8], state: &State, station: u8) -> Reason
+    requires { state.now.n ≤ max_stations }
+    ensures { as_reason result ≡ reason_by list.now (as_state state.now) station is_ready }
 {
-    let given = n as usize;
-    if turns::lowest_of(all, priorities, given, station as usize) {
+    let n = state.n as usize;
+    let all = stations::ready(list, &state.vars, &state.positions, n);
+    if turns::lowest_of(&all, &state.priorities, n, station as usize) {
         return Reason::MayBePicked;
     }
-    let ahead = turns::first_in_turn(all, priorities, given) as u8;
-    Reason::Behind(ahead)
+    let ahead = turns::first_in_turn(&all, &state.priorities, n).unwrap_or(n);
+    Reason::Behind(ahead as u8)
 }

@@ -5,6 +5,7 @@ ghost use Rattle.std.specs.Prelude.{◌≡◌, ◌≤◌, length, take};
 ghost use Rattle.std.specs.Io.KnownBytes.{Consumes};
 
 use std::fs::File;
+use std::io;
 use std::io::Read;
 use std::rt::Files;
 use text::Text;
@@ -23,7 +24,7 @@ pub fn read(rt: &impl Files, path: &[u8], buffer: &mut [u8]) -> usize
 }
 
 // Reads until the buffer is full, the reader ends or a read fails, and answers how many bytes came. They stand at the buffer's front, as the
-// reader gave them, and it has given no others.
+// reader gave them, and it has given no others. `read_exact` would not say how many came.
 pub fn fill<F: Read>(reader: &mut F, buffer: &mut [u8]) -> usize
     ensures in_bounds { result ≤ length buffer.new }
     ensures bytes { Consumes (F.remaining reader.old) (F.remaining reader.new) (take result buffer.new) }
@@ -38,9 +39,7 @@ pub fn fill<F: Read>(reader: &mut F, buffer: &mut [u8]) -> usize
     done
 }
 
-// Writes a text to the standard output, and answers whether it could be written.
-pub fn print(rt: &impl Print, text: Text) -> bool {
-    let bytes = text.bytes;
-    let count = (text.len as usize).min(bytes.len());
-    rt.write_all(&bytes[..count]).is_ok()
+// Writes a text to the standard output.
+pub fn print(rt: &impl Print, text: Text) -> io::Result<()> {
+    rt.write_all(text.as_bytes())
 }

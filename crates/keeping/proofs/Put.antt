@@ -1,14 +1,14 @@
 -- Bytes put into a kept place one part after another, until it holds a state, and the buffer with that place in it. Assumes nothing.
 use Rattle.std.specs.Prelude.{if◌then◌else◌}
-use mathlib.Core.Path.{◌≡◌, refl, sym, ◌∙◌}
+use mathlib.Core.Path.{◌≡◌, refl, ◌∙◌}
 use mathlib.Core.Bool.{Bool, true, false}
 use mathlib.Core.List.{List, [], ◌∷◌, ◌++◌, append_assoc, append-nil}
-use Prim.Native.Nat.{ℕ, suc, ◌+◌, ◌*◌, ◌/◌, ◌%◌, ◌≤◌, ◌<◌}
+use Prim.Native.Nat.{ℕ, ◌+◌, ◌-◌, ◌*◌, ◌/◌, ◌%◌, ◌≤◌, ◌<◌}
 use native.Mathlib.Nat.{mul-le-mul_left, zero-add}
 use native.Mathlib.Numerals.{add-one}
 use native.Mathlib.Omega.{arith}
 use lib.Dec.{eqb}
-use lib.ListN.{length, get_or, take, drop, set, replicate, length-append, length-replicate, replicate-append-replicate}
+use lib.ListN.{length, get_or, take, drop, replicate, length-append}
 use lib.Seq.{take-suc, length-take-le, drop-length, drop-drop}
 use Rattle.rules.specs.Words.{joined, written}
 use Rattle.rules.specs.Names.{variables, max_stations, kept_every, kept_length}
@@ -16,30 +16,19 @@ use Rattle.rules.specs.State.{State}
 use Rattle.rules.specs.Kept.{kept_offset, in_two, in_four, raised, encoded, keep}
 use Rattle.laws.proofs.Choice.{by_test}
 use Rattle.laws.proofs.Joined.{length_joined}
-use Rattle.laws.proofs.Written.{length_written, written_more, written_sets, written_record}
+use Rattle.laws.proofs.Written.{written_more}
 
--- four bytes
-pub written_four : (place : List ℕ) (at a b c d : ℕ) → at + 4 ≤ length place
-    → set (set (set (set place at a) (at + 1) b) (at + 2) c) (at + 3) d ≡ written place at (a ∷ b ∷ c ∷ d ∷ [])
-written_four place at a b c d room =
-    let e : at + 2 ≡ suc (suc at) = omega arith in
-    let f : at + 3 ≡ suc (suc (suc at)) = omega arith in
-    rw (written_sets place at (a ∷ b ∷ c ∷ d ∷ []) room, add-one, e, f)
+-- a part of a buffer overwritten by as many bytes
+pub written_part : (buffer bytes : List ℕ) (at size : ℕ) → length bytes ≡ size
+    → take at buffer ++ (bytes ++ drop (at + size - at) (drop at buffer)) ≡ written buffer at bytes
+unfolding written
+written_part buffer bytes at size e = let long : at + size - at ≡ size = omega arith in rw (long, e, drop-drop)
 
 -- more bytes, right after those put in
 put_next : (place now next bytes more : List ℕ) (at offset : ℕ) → at + length bytes ≡ offset → offset ≤ length place
     → now ≡ written place at bytes → next ≡ written now offset more → next ≡ written place at (bytes ++ more)
 put_next place now next bytes more at offset there room so_far new =
     rw (new, so_far, ← there) (written_more place at bytes more (omega arith))
-
--- one zero more
-pub zeros_more : (place now : List ℕ) (at count i : ℕ) → i < count → at + count ≤ length place
-    → now ≡ written place at (replicate i 0) → set now (at + i) 0 ≡ written place at (replicate (i + 1) 0)
-zeros_more place now at count i within room so_far =
-    let many : length (replicate {A = ℕ} i 0) ≡ i = length-replicate i 0 in
-    let long : length now ≡ length place = rw so_far (length_written place at (replicate i 0) (omega arith)) in
-    put_next place now _ (replicate i 0) (0 ∷ []) at (at + i) (omega arith) (omega arith) so_far (sym (written_sets now (at + i) (0 ∷ []) (omega arith)))
-    ∙ rw (replicate-append-replicate i 1)
 
 module _ {A : Type 0} (spell : A → List ℕ) where
   joined_snoc : (xs : List A) (x : A) → joined spell (xs ++ (x ∷ [])) ≡ joined spell xs ++ spell x
@@ -62,15 +51,6 @@ module _ {A : Type 0} (spell : A → List ℕ) where
 written_whole : (place bytes : List ℕ) → length bytes ≡ length place → written place 0 bytes ≡ bytes
 unfolding written
 written_whole place bytes e = rw (zero-add, e, drop-length, append-nil)
-
--- the bytes from n's on, put in one part after another
-pub rest_put : (place one two : List ℕ) (n b m : ℕ) → kept_length ≤ length place
-    → one ≡ written (set (set place 176 n) 177 b) 178 (in_two m) → two ≡ written one 180 (replicate 4 0)
-    → two ≡ written place 176 ((n ∷ b ∷ in_two m) ++ replicate 4 0)
-rest_put place one two n b m room e f =
-    let first = written_record place 176 n b (omega arith) in
-    let second = put_next place _ one (n ∷ b ∷ []) (in_two m) 176 178 refl (omega arith) first e in
-    put_next place one two (n ∷ b ∷ in_two m) (replicate 4 0) 176 180 refl (omega arith) second f
 
 -- what a place holds in the end
 pub state_put : (place one two three four five : List ℕ) (s : State) → length s.vars ≡ variables → length s.positions ≡ max_stations

@@ -1,154 +1,93 @@
 // Whole run states put into their kept places, over any buffer and any state whatever. docs/KEPT.md gives the bytes of a kept place.
 #![tactic(auto)]
 
-ghost use Rattle.std.specs.Prelude.{◌≡◌, ◌++◌, ◌∷◌, ◌+◌, ◌*◌, ◌≤◌, length, replicate, if◌then◌else◌};
+ghost use Rattle.std.specs.Prelude.{◌≡◌, refl, ℕ, List, ◌+◌, ◌*◌, ◌≤◌, length, if◌then◌else◌};
 ghost use Rattle.rules.specs.Words.{joined, written};
 ghost use Rattle.rules.specs.Names.{kept_length};
 ghost use Rattle.rules.specs.Kept.{in_two, in_four, raised, encoded, keep};
-ghost use Rattle.laws.specs.Parts.{of_parts};
+ghost use Rattle.state.specs.View.{as_state};
 ghost use Rattle.keeping.specs.Place.{has_place};
 
 use record::Record;
+use state::State;
 
-// Puts the state of these parts into its kept place, where its steps are a multiple of 64 and the buffer has the place; else nothing.
-pub fn keep(
-    kept: &mut [u8],
-    vars: &[u32; 32],
-    positions: &[u16; 8],
-    priorities: &[i16; 8],
-    counts: &[u16; 8],
-    n: u8,
-    b: u8,
-    m: u16,
-)
-    ensures { kept.new ≡ (if has_place m kept.old then keep kept.old (of_parts vars.now positions.now priorities.now counts.now n b m) else kept.old) }
+// Puts the state into its kept place, where its steps are a multiple of 64 and the buffer has the place; else nothing.
+pub fn keep(kept: &mut [u8], state: &State)
+    ensures { kept.new ≡ (if has_place state.now.m kept.old then keep kept.old (as_state state.now) else kept.old) }
 {
-    if m == 0 || m % Record::KEPT_EVERY != 0 {
+    if state.m == 0 || state.m % Record::KEPT_EVERY != 0 {
         return;
     }
-    let j = (m / Record::KEPT_EVERY) as usize;
+    let j = (state.m / Record::KEPT_EVERY) as usize;
     let at = Record::KEPT_LENGTH * (j - 1);
     let end = at + Record::KEPT_LENGTH;
     if end <= kept.len() {
-        put_state(
-            &mut kept[at..end],
-            vars,
-            positions,
-            priorities,
-            counts,
-            n,
-            b,
-            m,
-        );
+        put_state(&mut kept[at..end], state);
     }
 }
 
-// Fills a kept place with the state of these parts.
-fn put_state(
-    place: &mut [u8],
-    vars: &[u32; 32],
-    positions: &[u16; 8],
-    priorities: &[i16; 8],
-    counts: &[u16; 8],
-    n: u8,
-    b: u8,
-    m: u16,
-)
+// Fills a kept place with the state.
+fn put_state(place: &mut [u8], state: &State)
     requires { length place.old ≡ kept_length }
-    ensures { place.new ≡ encoded (of_parts vars.now positions.now priorities.now counts.now n b m) }
+    ensures { place.new ≡ encoded (as_state state.now) }
 {
-    put_vars(place, vars);
-    put_row(place, Record::KEPT_POSITIONS, positions);
-    put_priorities(place, priorities);
-    put_row(place, Record::KEPT_COUNTS, counts);
-    put_rest(place, n, b, m);
+    put_row(place, 0, &state.vars);
+    put_row(place, Record::KEPT_POSITIONS, &state.positions);
+    put_row(place, Record::KEPT_PRIORITIES, &state.priorities);
+    put_row(place, Record::KEPT_COUNTS, &state.counts);
+    let [m, m_high] = state.m.to_le_bytes();
+    place[Record::KEPT_N..].copy_from_slice(&[state.n, state.b, m, m_high, 0, 0, 0, 0]);
 }
 
-// Puts the variables at the front of a kept place.
-fn put_vars(place: &mut [u8], vars: &[u32])
-    requires { 4 * length vars.now ≤ length place.old }
-    ensures { place.new ≡ written place.old 0 (joined in_four vars.now) }
+// Puts a row of numbers into N bytes each, from an offset on.
+fn put_row<const N: usize, T: Spelled<N>>(place: &mut [u8], at: usize, row: &[T])
+    requires { at + N * length row.now ≤ length place.old }
+    ensures { place.new ≡ written place.old at (joined T.spelled row.now) }
 {
-    let mut v: usize = 0;
-    while v < vars.len() {
-        put_four(place, 4 * v, vars[v]);
-        v += 1;
+    for (j, x) in row.iter().enumerate() {
+        let start = at + N * j;
+        place[start..start + N].copy_from_slice(&x.bytes());
     }
 }
 
-// Puts a row of numbers into two bytes each, from an offset on.
-fn put_row(place: &mut [u8], at: usize, row: &[u16])
-    requires { at + 2 * length row.now ≤ length place.old }
-    ensures { place.new ≡ written place.old at (joined in_two row.now) }
-{
-    let mut j: usize = 0;
-    while j < row.len() {
-        put_two(place, at + 2 * j, row[j]);
-        j += 1;
+// A number that is kept in N bytes, low byte first.
+trait Spelled<const N: usize>: Copy {
+    ghost spelled: { Self → List ℕ };
+
+    fn bytes(self) -> [u8; N]
+        ensures { result ≡ spelled self };
+
+    ghost sized: { (x : Self) → length (spelled x) ≡ N };
+}
+
+impl Spelled<4> for u32 {
+    ghost spelled = { in_four };
+
+    ghost sized = { λ x. refl };
+
+    fn bytes(self) -> [u8; 4] {
+        u32::to_le_bytes(self)
     }
 }
 
-// Puts the priorities into a kept place.
-fn put_priorities(place: &mut [u8], priorities: &[i16])
-    requires { 144 + 2 * length priorities.now ≤ length place.old }
-    ensures { place.new ≡ written place.old 144 (joined (λ z. in_two (raised z)) priorities.now) }
-{
-    let mut j: usize = 0;
-    while j < priorities.len() {
-        put_two(
-            place,
-            Record::KEPT_PRIORITIES + 2 * j,
-            raised(priorities[j]),
-        );
-        j += 1;
+impl Spelled<2> for u16 {
+    ghost spelled = { in_two };
+
+    ghost sized = { λ x. refl };
+
+    fn bytes(self) -> [u8; 2] {
+        u16::to_le_bytes(self)
     }
 }
 
-// Puts n, b and m into a kept place, and zeros into the bytes behind them.
-fn put_rest(place: &mut [u8], n: u8, b: u8, m: u16)
-    requires { kept_length ≤ length place.old }
-    ensures { place.new ≡ written place.old 176 ((n ∷ b ∷ in_two m) ++ replicate 4 0) }
-{
-    place[Record::KEPT_N] = n;
-    place[Record::KEPT_N + 1] = b;
-    put_two(place, Record::KEPT_N + 2, m);
-    put_zeros(
-        place,
-        Record::KEPT_ORDER,
-        Record::KEPT_LENGTH - Record::KEPT_ORDER,
-    );
-}
+impl Spelled<2> for i16 {
+    ghost spelled = { λ z. in_two (raised z) };
 
-// Puts zeros into so many bytes from an offset on.
-fn put_zeros(place: &mut [u8], at: usize, count: usize)
-    requires { at + count ≤ length place.old }
-    ensures { place.new ≡ written place.old at (replicate count 0) }
-{
-    let mut i: usize = 0;
-    while i < count {
-        place[at + i] = 0;
-        i += 1;
+    ghost sized = { λ z. refl };
+
+    fn bytes(self) -> [u8; 2] {
+        u16::to_le_bytes(raised(self))
     }
-}
-
-// Puts a number into two bytes from an offset on, low byte first.
-fn put_two(place: &mut [u8], at: usize, x: u16)
-    requires { at + 2 ≤ length place.old }
-    ensures { place.new ≡ written place.old at (in_two x) }
-{
-    place[at] = (x % 256) as u8;
-    place[at + 1] = (x / 256) as u8;
-}
-
-// Puts a number into four bytes from an offset on, low byte first.
-fn put_four(place: &mut [u8], at: usize, x: u32)
-    requires { at + 4 ≤ length place.old }
-    ensures { place.new ≡ written place.old at (in_four x) }
-{
-    place[at] = (x % 256) as u8;
-    place[at + 1] = (x / 256 % 256) as u8;
-    place[at + 2] = (x / 65536 % 256) as u8;
-    place[at + 3] = (x / 16777216) as u8;
 }
 
 // A priority as a number that is not negative, 32,768 more.

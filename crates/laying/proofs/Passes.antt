@@ -1,27 +1,18 @@
--- What a turn of each loop does: a record more is counted or laid, or an INIT record more. Assumes nothing.
+-- What a turn of each loop does: a record more is laid, or an INIT record more. Assumes nothing.
 use mathlib.Core.Path.{◌≡◌, ap, ◌∙◌}
-use mathlib.Core.Bool.{Bool, true, false}
 use mathlib.Core.List.{List, ◌∷◌}
-use Prim.Native.Nat.{ℕ, zero, suc, ◌+◌, ◌-◌, ◌≤◌, ◌<◌}
+use Prim.Native.Nat.{ℕ, zero, suc, ◌-◌, ◌≤◌, ◌<◌}
 use native.Mathlib.Nat.{not-suc-le-zero}
-use native.Mathlib.Numerals.{add-one}
 use native.Mathlib.Omega.{arith}
 use lib.ListN.{length, get_or, drop, drop_of_length-le}
 use lib.Seq.{drop-cons}
-use Rattle.rules.specs.Words.{tally, values}
+use Rattle.rules.specs.Words.{values}
 use Rattle.rules.specs.Names.{INIT}
 use Rattle.rules.specs.Records.{Record}
 use Rattle.rules.specs.Build.{bare, listed}
-use Rattle.laws.proofs.Places.{tally_suc, length_values, get_or_values}
-use Rattle.layout.specs.declared.Laying.{Laying}
+use Rattle.laws.proofs.Places.{length_values, get_or_values}
+use Rattle.layout.specs.Layout.{Laying}
 use Rattle.laying.specs.Laid.{Laid, lay_record, lay_records, put_at, lay_inits}
-
--- from the first record to the last: the next one is counted, or not
-pub counted : (f : ℕ → Bool) (n i : ℕ) → n ≡ tally f i → f i ≡ true → n + 1 ≡ tally f (i + 1)
-counted f n i h e = rw (add-one n, add-one i, tally_suc f i, e) (ap suc h)
-
-pub passed : (f : ℕ → Bool) (n i : ℕ) → n ≡ tally f i → f i ≡ false → n ≡ tally f (i + 1)
-passed f n i h e = rw (add-one i, tally_suc f i, e) h
 
 -- from the last record to the first
 pub laid_none :

@@ -1,14 +1,12 @@
--- Bytes stored one after the other are the bytes put into the buffer. Assumes nothing.
+-- A part of the buffer that is copied over is the bytes put into the buffer. Assumes nothing.
 use mathlib.Core.Path.{◌≡◌}
-use mathlib.Core.List.{List, append_assoc}
+use mathlib.Core.List.{List}
 use Prim.Native.Nat.{ℕ}
-use native.Mathlib.Omega.{arith}
 use lib.ListN.{length}
-use lib.Seq.{paste, take_all}
+use lib.Seq.{drop-drop}
+use borrow.Rule.Slice.PartMut.{put_mid}
 use Rattle.rules.specs.Words.{written}
 
-pub pasted :
-    (buffer : List ℕ) (offset : ℕ) (bytes : List ℕ) (n : ℕ) → length bytes ≡ n →
-    paste buffer offset bytes n ≡ written buffer offset bytes
+pub copied : (buffer : List ℕ) (offset n : ℕ) (bytes : List ℕ) → n ≡ length bytes → put_mid offset n buffer bytes ≡ written buffer offset bytes
 unfolding written
-pasted buffer offset bytes n e = rw (take_all n bytes (omega arith), append_assoc, e)
+copied buffer offset n bytes e = rw (e, drop-drop)

@@ -5,8 +5,7 @@ use Rattle.rules.specs.Names.{SKIP, SET, IF, WHILE, AWAIT, INIT}
 use Rattle.rules.specs.Records.{Record, ListRecord, records, record_at, record_count, list_record_bytes}
 use Rattle.rules.specs.Build.{bare, listed}
 use Rattle.entries.specs.Entries.{end_of_file}
-use Rattle.layout.specs.declared.Laying.{Laying}
-use Rattle.layout.specs.Layout.{before_last, after_kind, lays, record_for}
+use Rattle.layout.specs.Layout.{Laying, before_last, after_kind, lays, record_for}
 use Rattle.loops.specs.Loops.{seek_records, nothing_sought}
 
 -- a list record put at a place, where there is room for it

@@ -4,6 +4,7 @@
 
 ghost use Rattle.std.specs.Prelude.{◌≡◌};
 ghost use Rattle.rules.specs.Records.{records};
+ghost use Rattle.layout.specs.View.{as_laying};
 ghost use Rattle.laying.specs.Laid.{lay_record, lay_records, lay_inits, laid_out, step_count};
 ghost use Rattle.record.specs.View.{as_record};
 
@@ -13,28 +14,28 @@ use record::Record;
 mod put;
 
 // One record of the file: what is laid for it is put before what was laid last.
+#[tactic(auto, unfolding(crate::specs::Laid::lay_record))]
 fn lay_record(r: Record, laying: Laying, loops: &[u16], list: &mut [u8]) -> Laying
-    ensures state { result ≡ (lay_record loops.now (as_record r) (record { state = laying; buffer = list.old })).state }
-    ensures buffer { list.new ≡ (lay_record loops.now (as_record r) (record { state = laying; buffer = list.old })).buffer }
+    ensures state { as_laying result ≡ (lay_record loops.now (as_record r) (record { state = as_laying laying; buffer = list.old })).state }
+    ensures buffer { list.new ≡ (lay_record loops.now (as_record r) (record { state = as_laying laying; buffer = list.old })).buffer }
 {
-    let kind = r.kind;
-    let after = laying.take(kind, loops);
-    if laid::lays(laying, kind) {
-        let place = entries::less(laying.place);
-        put::put(list, place, laid::record_for(laying, r));
+    if laid::lays(laying, r.kind) {
+        put::put(
+            list,
+            laying.place.saturating_sub(1),
+            laid::record_for(laying, r),
+        );
     }
-    after
+    laying.take(r.kind, loops)
 }
 
 // All the records of a file, from the last to the first.
 fn lay_records(file: &[u8], laying: Laying, loops: &[u16], list: &mut [u8]) -> Laying
-    ensures state { result ≡ (lay_records loops.now (records file.now) (record { state = laying; buffer = list.old })).state }
-    ensures buffer { list.new ≡ (lay_records loops.now (records file.now) (record { state = laying; buffer = list.old })).buffer }
+    ensures state { as_laying result ≡ (lay_records loops.now (records file.now) (record { state = as_laying laying; buffer = list.old })).state }
+    ensures buffer { list.new ≡ (lay_records loops.now (records file.now) (record { state = as_laying laying; buffer = list.old })).buffer }
 {
     let mut x = laying;
-    let mut i = file.len() / 8;
-    while 0 < i {
-        i -= 1;
+    for i in (0..file.len() / 8).rev() {
         x = lay_record(Record::at(file, i), x, loops, list);
     }
     x
@@ -44,41 +45,31 @@ fn lay_records(file: &[u8], laying: Laying, loops: &[u16], list: &mut [u8]) -> L
 fn lay_inits(stations: u8, starts: [u16; 8], place: u16, list: &mut [u8])
     ensures { list.new ≡ lay_inits stations starts place list.old }
 {
-    let mut j = stations;
     let mut p = place;
-    while 0 < j {
-        j -= 1;
-        p = entries::less(p);
+    for j in (0..stations).rev() {
+        p = p.saturating_sub(1);
         put::put(list, p, entries::init(j, starts));
     }
 }
 
 // A whole list of so many records and stations.
+#[tactic(auto, unfolding(crate::specs::Laid::laid_out))]
 pub fn lay_out(file: &[u8], total: u16, stations: u8, list: &mut [u8])
     ensures { list.new ≡ laid_out file.now total stations list.old }
 {
-    let found = loops::find(file, entries::less(stations as u16));
-    let places = found.places;
+    let found = loops::find(file, (stations as u16).saturating_sub(1));
     let begin = Laying::begin(total, stations, found.found);
-    let last = lay_record(entries::end_of_file(), begin, &places, list);
-    let x = lay_records(file, last, &places, list);
-    let starts = x.starts;
-    lay_inits(stations, starts, x.place, list)
+    let last = lay_record(entries::end_of_file(), begin, &found.places, list);
+    let x = lay_records(file, last, &found.places, list);
+    lay_inits(stations, x.starts, x.place, list)
 }
 
 // How many SKIP, SET, IF, WHILE and AWAIT records a file has.
+#[tactic(auto, unfolding(crate::specs::Laid::step_count))]
 pub fn step_count(file: &[u8]) -> usize
     ensures { result ≡ step_count file.now }
 {
-    let count = file.len() / 8;
-    let mut n: usize = 0;
-    let mut i: usize = 0;
-    while i < count {
-        let r = Record::at(file, i);
-        if entries::is_step(r.kind) {
-            n += 1;
-        }
-        i += 1;
-    }
-    n
+    file.chunks_exact(8)
+        .filter(|record| entries::is_step(record[0]))
+        .count()
 }

@@ -5,7 +5,19 @@ use Rattle.rules.specs.Words.{among}
 use Rattle.rules.specs.Names.{STATION, SKIP, SET, IF, ELSE, FI, WHILE, OD, AWAIT, END, STOP, max_depth, max_stations, no_station}
 use Rattle.rules.specs.Records.{Record, ListRecord}
 use Rattle.rules.specs.Build.{bare, listed}
-use Rattle.layout.specs.declared.Laying.{Laying}
+
+-- what is known: the place of the record laid last and the step that comes next, the station, 1 in a body, the loops whose OD is still
+-- to be read and the parts that are open; by part, what comes after its statement and where its second branch starts; by station, its start
+pub record Laying : Type 0 where
+  pub place : ℕ
+  pub next : ℕ
+  pub station : ℕ
+  pub inside : ℕ
+  pub loops : ℕ
+  pub depth : ℕ
+  pub after : List ℕ
+  pub second : List ℕ
+  pub starts : List ℕ
 
 -- before the last record of the file is read: a list of so many records, stations and loops
 abbrev pub before_last : ℕ → ℕ → ℕ → Laying

@@ -3,15 +3,25 @@
 #![tactic(auto)]
 
 ghost use Rattle.std.specs.Prelude.{◌≡◌, ◌-◌, get_or};
+ghost use Rattle.layout.specs.View.{as_laying};
 ghost use Rattle.layout.specs.Layout.{before_last, stepped, pushed, switched, popped, turned, after_kind};
 
-use entries::{entry, less, one_less};
-use record::Record;
+use record::{Record, entry};
 
 // Places for what is known of open parts, from 1 on: at most sixteen are open.
 const PARTS: usize = Record::MAX_DEPTH + 1;
 
-// What is known while a list is laid out. Each part that is open has a place in two arrays.
+// What is known of a part that is open.
+#[derive(Clone, Copy, Debug, Default, PartialEq, Eq)]
+pub struct Part {
+    // what comes after the statement that it belongs to
+    pub after: u16,
+    // where the second branch of an IF starts
+    pub second: u16,
+}
+
+// What is known while a list is laid out. The parts that are open stand in a row of the most, from 1 on, with their number beside it: the project
+// has no heap and fixed memory.
 #[derive(Clone, Copy)]
 pub struct Laying {
     // where the record laid last stands
@@ -26,10 +36,8 @@ pub struct Laying {
     pub loops: usize,
     // parts that are open
     pub depth: usize,
-    // by part, what comes after the statement that it belongs to
-    pub after: [u16; PARTS],
-    // by part, where the second branch of an IF starts
-    pub second: [u16; PARTS],
+    // by part that is open, what is known of it
+    pub parts: [Part; PARTS],
     // by station, where it starts
     pub starts: [u16; 8],
 }
@@ -37,7 +45,7 @@ pub struct Laying {
 impl Laying {
     // Before the last record of the file is read: a list of so many records, stations and loops.
     pub fn begin(place: u16, stations: u8, loops: usize) -> Laying
-        ensures { result ≡ before_last place stations loops }
+        ensures { as_laying result ≡ before_last place stations loops }
     {
         Laying {
             place,
@@ -46,30 +54,29 @@ impl Laying {
             inside: 0,
             loops,
             depth: 0,
-            after: [0u16; PARTS],
-            second: [0u16; PARTS],
+            parts: [Part::default(); PARTS],
             starts: [0u16; 8],
         }
     }
 
     // A step is laid, and is what comes next.
+    #[tactic(auto, unfolding(crate::specs::Layout::stepped))]
     fn step(mut self) -> Laying
-        ensures { result ≡ stepped self }
+        ensures { as_laying result ≡ stepped (as_laying self) }
     {
-        let place = less(self.place);
-        self.place = place;
-        self.next = place;
+        self.place = self.place.saturating_sub(1);
+        self.next = self.place;
         self
     }
 
     // A closing record: a part opens, and `next` comes after its last step.
+    #[tactic(auto, unfolding(crate::specs::Layout::pushed))]
     fn push(mut self, next: u16, inside: u8, loops: usize) -> Laying
-        ensures { result ≡ pushed next inside loops self }
+        ensures { as_laying result ≡ pushed next inside loops (as_laying self) }
     {
-        let depth = self.depth;
-        if depth < Record::MAX_DEPTH {
-            self.after[depth + 1] = self.next;
-            self.depth = depth + 1;
+        if self.depth < Record::MAX_DEPTH {
+            self.depth += 1;
+            self.parts[self.depth].after = self.next;
         }
         self.next = next;
         self.inside = inside;
@@ -79,103 +86,85 @@ impl Laying {
 
     // What comes after the innermost part's statement; 0 past the sixteenth.
     pub fn coming(self) -> u16
-        ensures { result ≡ get_or self.after self.depth 0 }
+        ensures { result ≡ get_or (as_laying self).after self.depth 0 }
     {
-        let after = self.after;
-        entry(&after, self.depth)
+        entry(&self.parts, self.depth, Part::default()).after
     }
 
     // Where the innermost part's second branch starts; 0 past the sixteenth.
     pub fn other(self) -> u16
-        ensures { result ≡ get_or self.second self.depth 0 }
+        ensures { result ≡ get_or (as_laying self).second self.depth 0 }
     {
-        let second = self.second;
-        entry(&second, self.depth)
+        entry(&self.parts, self.depth, Part::default()).second
     }
 
     // ELSE: the second branch was read, and what comes after it comes after the first branch too.
+    #[tactic(auto, unfolding(crate::specs::Layout::switched))]
     fn switch(mut self) -> Laying
-        ensures { result ≡ switched self }
+        ensures { as_laying result ≡ switched (as_laying self) }
     {
-        let depth = self.depth;
         let next = self.coming();
-        if depth < PARTS {
-            self.second[depth] = self.next;
+        if self.depth < PARTS {
+            self.parts[self.depth].second = self.next;
         }
         self.next = next;
         self
     }
 
     // An opening record is laid, and is what comes next; its part is no longer open.
+    #[tactic(auto, unfolding(crate::specs::Layout::popped, crate::specs::Layout::stepped))]
     fn pop(mut self, inside: u8) -> Laying
-        ensures { result ≡ popped inside self }
+        ensures { as_laying result ≡ popped inside (as_laying self) }
     {
-        let place = less(self.place);
-        let depth = one_less(self.depth);
-        self.place = place;
-        self.next = place;
         self.inside = inside;
-        self.depth = depth;
-        self
+        self.depth = self.depth.saturating_sub(1);
+        self.step()
     }
 
     // STATION, or the end of the file: the station that was read starts here, and the STOP of the one before is laid, if there is one.
+    #[tactic(auto, unfolding(crate::specs::Layout::turned))]
     fn turn(mut self) -> Laying
-        ensures { result ≡ turned self }
+        ensures { as_laying result ≡ turned (as_laying self) }
     {
-        let station = self.station;
         let place = self.place;
+        let station = self.station as usize;
+        if station < Record::MAX_STATIONS {
+            self.starts[station] = place;
+        }
         if station == 0 {
-            self.starts[0] = place;
             self.next = place;
             self.station = Record::NO_STATION;
-            return self;
-        }
-        let below = less(place);
-        let at = station as usize;
-        self.place = below;
-        self.next = below;
-        self.station = station - 1;
-        if at < Record::MAX_STATIONS {
-            self.starts[at] = place;
+        } else {
+            let below = place.saturating_sub(1);
+            self.place = below;
+            self.next = below;
+            self.station -= 1;
         }
         self
     }
 
     // The layout after a record of this kind.
+    #[tactic(auto, unfolding(crate::specs::Layout::after_kind))]
     pub fn take(self, kind: u8, loops: &[u16]) -> Laying
-        ensures { result ≡ after_kind loops.now kind self }
+        ensures { as_laying result ≡ after_kind loops.now kind (as_laying self) }
     {
-        if kind == Record::SKIP || kind == Record::SET {
-            return self.step();
+        match kind {
+            Record::SKIP | Record::SET => self.step(),
+            Record::IF | Record::WHILE => self.pop(self.inside),
+            Record::AWAIT => self.pop(0),
+            Record::FI => self.push(self.next, self.inside, self.loops),
+            Record::ELSE => self.switch(),
+            Record::OD => self.back(loops),
+            Record::END => self.push(0, 1, self.loops),
+            _ => self.turn(),
         }
-        if kind == Record::IF || kind == Record::WHILE {
-            return self.pop(self.inside);
-        }
-        if kind == Record::AWAIT {
-            return self.pop(0);
-        }
-        if kind == Record::FI {
-            return self.push(self.next, self.inside, self.loops);
-        }
-        if kind == Record::ELSE {
-            return self.switch();
-        }
-        if kind == Record::OD {
-            return self.back(loops);
-        }
-        if kind == Record::END {
-            return self.push(0, 1, self.loops);
-        }
-        self.turn()
     }
 
     // OD: the part of a loop opens, whose last step leads to its WHILE.
     fn back(self, loops: &[u16]) -> Laying
-        ensures { result ≡ pushed (get_or loops.now (self.loops - 1) 0) self.inside (self.loops - 1) self }
+        ensures { as_laying result ≡ pushed (get_or loops.now (self.loops - 1) 0) self.inside (self.loops - 1) (as_laying self) }
     {
-        let left = one_less(self.loops);
-        let place = entry(loops, left);
-        self.push(place, self.inside, left)
+        let left = self.loops.saturating_sub(1);
+        self.push(entry(loops, left, 0), self.inside, left)
     }
 }

@@ -5,7 +5,7 @@ use Prim.Native.Nat.{ℕ}
 use Rattle.rules.specs.Records.{Pick}
 use Rattle.rules.specs.Lent.{Lent}
 use Rattle.rules.specs.State as rules_state
-use Rattle.run.specs.declared.State.{State}
+use Rattle.state.specs.declared.State.{State}
 use Rattle.run.specs.declared.Outcome.{Outcome}
 use Rattle.run.proofs.Only.{step_only}
 use Rattle.lent.specs.Promises.{AdvancePromise}

@@ -9,9 +9,9 @@ use Rattle.rules.specs.Lent.{Lent}
 use Rattle.rules.specs.State as rules_state
 use Rattle.rules.specs.Step as rules
 use Rattle.laws.proofs.Answers.{step_refused}
-use Rattle.run.specs.declared.State.{State}
+use Rattle.state.specs.declared.State.{State}
 use Rattle.run.specs.declared.Outcome.{Outcome}
-use Rattle.run.specs.View.{as_state}
+use Rattle.state.specs.View.{as_state}
 use Rattle.run.specs.Promises.{StepPromise}
 use Rattle.lent.specs.Promises.{AdvancePromise}
 

@@ -5,7 +5,7 @@ use Rattle.rules.specs.Records.{Pick}
 use Rattle.rules.specs.State as rules_state
 use Rattle.rules.specs.Lent.{Lent}
 use Rattle.rules.specs.Step as rules
-use Rattle.run.specs.declared.State.{State}
+use Rattle.state.specs.declared.State.{State}
 use Rattle.lent.specs.View.{as_advanced}
 
 -- what advancing promises of the number that it answers, of the state that it leaves and of what was lent afterwards

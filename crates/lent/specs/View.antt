@@ -2,8 +2,8 @@
 use Rattle.std.specs.Prelude.{ℕ}
 use Rattle.rules.specs.Lent.{Lent}
 use Rattle.rules.specs.Step as rules
-use Rattle.run.specs.View.{as_state}
-use Rattle.run.specs.declared.State.{State}
+use Rattle.state.specs.View.{as_state}
+use Rattle.state.specs.declared.State.{State}
 
 abbrev pub as_advanced : ℕ → State → Lent → rules.Stepped
 as_advanced number state lent = record { number = number; state = as_state state; lent = lent }

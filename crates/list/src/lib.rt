@@ -17,14 +17,9 @@ pub fn stations(list: &[u8]) -> usize
     ensures { result ≡ stations list.now }
 {
     let count = list.len() / 16;
-    let mut n: usize = 0;
-    while n < count {
-        if list[16 * n] != Record::INIT {
-            return n;
-        }
-        n += 1;
-    }
-    n
+    (0..count)
+        .find(|p| list[16 * p] != Record::INIT)
+        .unwrap_or(count)
 }
 
 // The place of the first later record, in a list that opens with n INITs: past the initial part, which starts at n. Where the records
@@ -33,74 +28,41 @@ pub fn later(list: &[u8], n: usize) -> usize
     ensures { result ≡ later_after list.now n }
 {
     let count = list.len() / 16;
-    let mut p = n;
-    while p < count {
-        if list[16 * p + 8] != Record::NO_STATION {
-            return p;
-        }
-        p += 1;
-    }
-    p
+    (n..count)
+        .find(|p| list[16 * p + 8] != Record::NO_STATION)
+        .unwrap_or(n.max(count))
 }
 
 // Whether each of the first n records is its station's INIT.
 fn each_init_right(list: &[u8], n: usize, later: usize) -> bool
     ensures { result ≡ each (init_right list.now later) n }
 {
-    let mut j: usize = 0;
-    while j < n {
-        if !init_right(list, later, j) {
-            return false;
-        }
-        j += 1;
-    }
-    true
+    (0..n).all(|j| init_right(list, later, j))
 }
 
 // Whether each record from place n to the first later one is an initial SET.
 fn each_initial_right(list: &[u8], n: usize, later: usize) -> bool
     ensures { result ≡ each (λ i. initial_right list.now (n + i)) (later - n) }
 {
-    let mut p = n;
-    while p < later {
-        if !initial_right(list, p) {
-            return false;
-        }
-        p += 1;
-    }
-    true
+    (n..later).all(|p| initial_right(list, p))
 }
 
 // Whether each record from the first later one on is right.
 fn each_later_right(list: &[u8], n: usize, later: usize) -> bool
     ensures { result ≡ each (λ i. later_right list.now n later (later + i)) (list_count list.now - later) }
 {
-    let count = list.len() / 16;
-    let mut p = later;
-    while p < count {
-        if !later_right(list, n, later, p) {
-            return false;
-        }
-        p += 1;
-    }
-    true
+    (later..list.len() / 16).all(|p| later_right(list, n, later, p))
 }
 
 // Whether the bytes are a sound list.
 pub fn sound(list: &[u8]) -> bool
     ensures { result ≡ sound_list list.now }
 {
-    if list.len() % 16 != 0 {
-        return false;
-    }
-    if Record::MAX_LIST < list.len() / 16 {
+    if list.len() % 16 != 0 || Record::MAX_LIST < list.len() / 16 {
         return false;
     }
     let n = stations(list);
-    if n < 1 {
-        return false;
-    }
-    if Record::MAX_STATIONS < n {
+    if !(1..=Record::MAX_STATIONS).contains(&n) {
         return false;
     }
     let later = later(list, n);

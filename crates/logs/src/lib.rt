@@ -5,6 +5,8 @@ ghost use Rattle.std.specs.Prelude.{◌≡◌, [], ◌∷◌, ◌+◌, ◌*◌, 
 ghost use Rattle.rules.specs.Words.{written};
 ghost use Rattle.logs.specs.Room.{has_room};
 
+use record::Pick;
+
 // Whether the log has room for the record of one step more.
 pub fn room(log: &[u8], n: u8, m: u16) -> bool
     ensures { result ≡ has_room n m log.now }
@@ -13,13 +15,12 @@ pub fn room(log: &[u8], n: u8, m: u16) -> bool
 }
 
 // Writes the record of one step more; where there is no room for it, nothing.
-pub fn put(log: &mut [u8], n: u8, m: u16, station: u8, reset: u8)
-    ensures { log.new ≡ (if has_room n m log.old then written log.old (2 * (n + m)) (station ∷ reset ∷ []) else log.old) }
+pub fn put(log: &mut [u8], n: u8, m: u16, pick: Pick)
+    ensures { log.new ≡ (if has_room n m log.old then written log.old (2 * (n + m)) (pick.station ∷ pick.reset ∷ []) else log.old) }
 {
-    let at = place(n, m);
-    if at + 2 <= log.len() {
-        log[at] = station;
-        log[at + 1] = reset;
+    if room(log, n, m) {
+        let at = place(n, m);
+        log[at..at + 2].copy_from_slice(&[pick.station, pick.reset]);
     }
 }
 

@@ -5,14 +5,12 @@ use mathlib.Core.List.{List, [], ◌∷◌, ◌++◌}
 use Prim.Native.Nat.{ℕ, ◌+◌, ◌≤◌, ◌<◌}
 use native.Mathlib.Numerals.{add-one}
 use native.Mathlib.Omega.{arith}
-use lib.Dec.{eqb}
-use lib.ListN.{length, length-set, get_or, set}
+use lib.ListN.{length, get_or, set}
 use lib.Seq.{set_out}
 use borrow.Author.Tests.{ne_eqb, lt-ltb, le-ltb}
 use Rattle.rules.specs.Words.{values}
 use Rattle.rules.specs.Names.{OD}
 use Rattle.rules.specs.Records.{Record}
-use Rattle.laws.proofs.Choice.{by_test}
 use Rattle.laws.proofs.Places.{values_suc}
 use Rattle.loops.specs.declared.Seeking.{Seeking}
 use Rattle.loops.specs.Loops.{max_loops, left, Sought, sought, noted, seek_record, seek_records}
@@ -23,16 +21,13 @@ seek_last [] r x = refl
 seek_last (q ∷ rs) r x = seek_last rs r (seek_record q x)
 
 pub sought_more :
-    (f : ℕ → Record) (i : ℕ) (x start : Sought) (s : Seeking) (places : List ℕ) →
-    x ≡ seek_records (values f i) start →
-    s ≡ sought (f i).kind x.seeking → places ≡ noted (f i).kind x.seeking x.places →
-    ◌≡◌ {A = Sought} (record { seeking = s; places = places }) (seek_records (values f (i + 1)) start)
+    (f : ℕ → Record) (i j kind : ℕ) (x start : Sought) (s : Seeking) (places : List ℕ) →
+    j ≡ i + 1 → kind ≡ (f i).kind → x ≡ seek_records (values f i) start →
+    s ≡ sought kind x.seeking → places ≡ noted kind x.seeking x.places →
+    ◌≡◌ {A = Sought} (record { seeking = s; places = places }) (seek_records (values f j) start)
 unfolding seek_record
-sought_more f i x start s places h a b = rw (add-one i, values_suc f i, seek_last (values f i) (f i) start, ← h, a, b)
-
-pub length_noted : (kind : ℕ) (s : Seeking) (places : List ℕ) → length (noted kind s places) ≡ length places
-unfolding noted
-length_noted kind s places = by_test (eqb kind OD) (λ e. rw (e, length-set)) (λ e. rw e)
+sought_more f i j kind x start s places e k h a b =
+    rw (e, add-one i, values_suc f i, seek_last (values f i) (f i) start, ← h, a, b, k)
 
 -- at an OD, where there is room for one more, and where there is none; and at any other kind
 module _ (s : Seeking) where

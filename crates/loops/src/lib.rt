@@ -5,10 +5,9 @@ ghost use Rattle.std.specs.Prelude.{◌≡◌, get_or, [], ◌∷◌};
 ghost use Rattle.rules.specs.Words.{among};
 ghost use Rattle.rules.specs.Names.{STATION, SKIP, SET, IF, AWAIT, WHILE, OD};
 ghost use Rattle.rules.specs.Records.{records};
-ghost use Rattle.loops.specs.Loops.{seeking, more as more_of, left, sought, seek_records, nothing_sought};
+ghost use Rattle.loops.specs.Loops.{seeking, left, sought, seek_records, nothing_sought};
 
-use entries::{entry, one_less};
-use record::Record;
+use record::{Record, entry};
 
 // Places for the loops that are open, from 1 on: at most sixteen are.
 const OPEN: usize = Record::MAX_DEPTH + 1;
@@ -17,6 +16,7 @@ const OPEN: usize = Record::MAX_DEPTH + 1;
 const MAX_LOOPS: usize = Record::MAX_RECORDS / 2;
 
 // What is known while loops are sought. Each loop that is open has a place in the array.
+// An array of the most and a length beside it, here and in Loops: the project has no heap and fixed memory.
 #[derive(Clone, Copy)]
 pub struct Seeking {
     // where the next record of the file stands in the list
@@ -36,16 +36,6 @@ pub struct Loops {
     pub places: [u16; MAX_LOOPS],
 }
 
-// One more, and 65,535 of 65,535.
-fn more(x: u16) -> u16
-    ensures { result ≡ more_of x }
-{
-    if x < u16::MAX {
-        return x + 1;
-    }
-    x
-}
-
 impl Seeking {
     // Before the first record.
     fn begin(place: u16) -> Seeking
@@ -63,11 +53,11 @@ impl Seeking {
     fn innermost(self) -> u16
         ensures { result ≡ get_or self.whiles self.depth 0 }
     {
-        let whiles = self.whiles;
-        entry(&whiles, self.depth)
+        entry(&self.whiles, self.depth, 0)
     }
 
     // After a record of this kind, which is no OD.
+    #[tactic(auto, unfolding(crate::specs::Loops::sought))]
     fn seek(mut self, kind: u8) -> Seeking
         requires { kind ≡ OD → ⊥ }
         ensures { result ≡ sought kind self }
@@ -76,22 +66,21 @@ impl Seeking {
             return self.enter();
         }
         if lays_one(kind) {
-            self.place = more(self.place);
+            self.place = self.place.saturating_add(1);
         }
         self
     }
 
     // A WHILE: a loop opens.
+    #[tactic(auto, unfolding(crate::specs::Loops::sought))]
     fn enter(mut self) -> Seeking
         ensures { result ≡ sought WHILE self }
     {
-        let place = self.place;
-        let depth = self.depth;
-        self.place = more(place);
-        if depth < Record::MAX_DEPTH {
-            self.whiles[depth + 1] = place;
-            self.depth = depth + 1;
+        if self.depth < Record::MAX_DEPTH {
+            self.depth += 1;
+            self.whiles[self.depth] = self.place;
         }
+        self.place = self.place.saturating_add(1);
         self
     }
 
@@ -99,7 +88,7 @@ impl Seeking {
     fn leave(mut self, found: usize) -> Seeking
         ensures { result ≡ left found self }
     {
-        self.depth = one_less(self.depth);
+        self.depth = self.depth.saturating_sub(1);
         self.found = found;
         self
     }
@@ -109,10 +98,10 @@ impl Seeking {
 fn lays_one(kind: u8) -> bool
     ensures { result ≡ among kind (STATION ∷ SKIP ∷ SET ∷ IF ∷ AWAIT ∷ []) }
 {
-    match kind {
-        Record::STATION | Record::SKIP | Record::SET | Record::IF | Record::AWAIT => true,
-        _ => false,
-    }
+    matches!(
+        kind,
+        Record::STATION | Record::SKIP | Record::SET | Record::IF | Record::AWAIT
+    )
 }
 
 // The loops of a file whose first record stands at a place of the list.
@@ -120,26 +109,21 @@ pub fn find(file: &[u8], place: u16) -> Loops
     ensures found { result.found ≡ (seek_records (records file.now) (nothing_sought place)).seeking.found }
     ensures places { result.places ≡ (seek_records (records file.now) (nothing_sought place)).places }
 {
-    let count = file.len() / 8;
     let mut s = Seeking::begin(place);
     let mut places = [0u16; MAX_LOOPS];
-    let mut i: usize = 0;
-    while i < count {
-        let r = Record::at(file, i);
-        let kind = r.kind;
-        if kind == Record::OD {
-            let found = s.found;
-            if found < MAX_LOOPS {
-                places[found] = s.innermost();
-                s = s.leave(found + 1);
-            } else {
-                s = s.leave(found);
-            }
-        } else {
+    for record in file.chunks_exact(8) {
+        let kind = record[0];
+        if kind != Record::OD {
             s = s.seek(kind);
+        } else if s.found < MAX_LOOPS {
+            places[s.found] = s.innermost();
+            s = s.leave(s.found + 1);
+        } else {
+            s = s.leave(s.found);
         }
-        i += 1;
     }
-    let found = s.found;
-    Loops { found, places }
+    Loops {
+        found: s.found,
+        places,
+    }
 }

@@ -3,16 +3,14 @@
 use mathlib.Core.Path.{◌≡◌, refl}
 use mathlib.Core.List.{List}
 use Prim.Native.Nat.{ℕ, zero, suc, ◌+◌, ◌*◌, ◌≤◌}
-use native.Mathlib.Numerals.{add-one}
 use native.Mathlib.Omega.{arith}
-use lib.ListN.{length, set}
+use lib.ListN.{length, set, get_or, get_or-eq_default}
 use lib.Seq.{set-set}
-use Rattle.rules.specs.Records.{ListRecord, list_record_at}
+use Rattle.rules.specs.Records.{ListRecord, record_from, list_record_at}
 use Rattle.rules.specs.Values.{set_value, assigned}
 use Rattle.rules.specs.Start.{initial_run}
 use Rattle.rules.specs.Move.{vars_after, target_after, body_run}
 use Rattle.laws.proofs.Bodies.{body_goes}
-use Rattle.record.proofs.Bytes.{none_past}
 
 -- a record of a body is run, with what the calls of a turn answer
 pub body_turn :
@@ -24,18 +22,21 @@ body_turn list left place vars h n e t a = rw (h, body_goes list left place vars
 
 -- an initial record is run, and the next one follows
 pub initial_turn :
-    (list : List ℕ) (left place : ℕ) (vars : List ℕ) {more : ℕ} {after : List ℕ} {e : ListRecord} →
-    more ≡ suc left → e ≡ list_record_at list place → after ≡ assigned vars e.own →
-    initial_run list (place + 1) left after ≡ initial_run list place more vars
+    (list : List ℕ) (left place : ℕ) (vars : List ℕ) {more next : ℕ} {after : List ℕ} {e : ListRecord} →
+    more ≡ suc left → next ≡ suc place → e ≡ list_record_at list place → after ≡ assigned vars e.own →
+    initial_run list next left after ≡ initial_run list place more vars
 unfolding initial_run
-initial_turn list left place vars h e a = rw (h, a, e, add-one)
+initial_turn list left place vars h n e a = rw (h, n, a, e)
 
 -- past the end of the list a record is zeros, which set variable 0 to 0
 clears :
     (list : List ℕ) (place : ℕ) (vars : List ℕ) → length list ≤ place →
     assigned vars (list_record_at list place).own ≡ set vars 0 0
-unfolding list_record_at set_value
-clears list place vars h = rw (none_past list (16 * place) (omega arith))
+unfolding list_record_at record_from set_value
+clears list place vars h =
+    let zero : (k : ℕ) → 16 * place ≤ k → get_or list k 0 ≡ 0 = λ k l. get_or-eq_default list 0 (omega arith) in
+    let at : ℕ → ℕ = λ k. 16 * place + k in
+    rw (zero (at 1) (omega arith), zero (at 3) (omega arith), zero (at 4) (omega arith), zero (at 4 + 1) (omega arith), zero (at 4 + 2) (omega arith), zero (at 4 + 3) (omega arith))
 
 -- so that the first of them does what any number of them does
 past_run :

@@ -15,8 +15,7 @@ use record::{ListRecord, Record};
 fn target_after(vars: &[u32; 32], e: ListRecord) -> u16
     ensures { result ≡ target_after vars.now (as_list_record e) }
 {
-    let kind = e.own.kind;
-    match kind {
+    match e.own.kind {
         Record::IF | Record::WHILE => {
             let holds = values::holds(vars, e.own.op, e.own.b as usize, e.own.k);
             if holds { e.t1 } else { e.t2 }
@@ -39,19 +38,18 @@ fn run_body(list: &[u8], from: u16, vars: &mut [u32; 32])
     ensures { vars.new ≡ body_run (narrow list.now) (list_count list.now) from vars.old }
 {
     let mut place = from;
-    let mut left = list.len() / 16;
-    while left > 0 {
+    for _ in 0..list.len() / 16 {
         if place == 0 {
             return;
         }
         let e = narrow::narrowed(list, place as usize);
         place = target_after(vars, e);
-        left -= 1;
         change(vars, e.own);
     }
 }
 
 // Takes the next step of a station that stands at this place, and answers its place after it. An AWAIT's body is part of its step.
+#[tactic(auto, using(laws::proofs::Narrow::narrow_count), unfolding(rules::specs::Move::step_vars, rules::specs::Move::step_position))]
 pub fn step(list: &[u8], vars: &mut [u32; 32], place: u16) -> u16
     ensures { (result ≡ step_position vars.old (list_record_at (narrow list.now) place)) × (vars.new ≡ step_vars (narrow list.now) vars.old (list_record_at (narrow list.now) place)) }
 {
@@ -70,15 +68,12 @@ pub fn step(list: &[u8], vars: &mut [u32; 32], place: u16) -> u16
 pub fn initial_run(list: &[u8], from: usize, count: usize, vars: &mut [u32; 32])
     ensures { vars.new ≡ initial_run list.now from count vars.old }
 {
-    let mut place = from;
-    let mut left = count;
-    while left > 0 {
-        let e = ListRecord::at(list, place);
-        values::assign(vars, e.own.op, e.own.a as usize, e.own.b as usize, e.own.k);
+    for i in 0..count {
+        let place = from + i;
+        let r = ListRecord::at(list, place).own;
+        values::assign(vars, r.op, r.a as usize, r.b as usize, r.k);
         if place >= list.len() {
             return;
         }
-        place += 1;
-        left -= 1;
     }
 }

@@ -14,35 +14,16 @@ use record::{ListRecord, Record};
 pub fn narrowed(list: &[u8], p: usize) -> ListRecord
     ensures { as_list_record result ≡ list_record_at (narrow list.now) p }
 {
-    if p < list.len() / 16 {
-        let at = 16 * p;
-        return ListRecord {
-            own: Record {
-                kind: list[at],
-                a: list[at + 1] % 32,
-                b: list[at + 2] % 32,
-                op: list[at + 3],
-                k: record::word(list[at + 4], list[at + 5], list[at + 6], list[at + 7]),
-            },
-            station: list[at + 8],
-            inside: list[at + 9],
-            t1: record::half(list[at + 10], list[at + 11]),
-            t2: record::half(list[at + 12], list[at + 13]),
-            spare: record::half(list[at + 14], list[at + 15]),
-        };
-    }
-    ListRecord {
-        own: Record {
-            kind: 0,
-            a: 0,
-            b: 0,
-            op: 0,
-            k: 0,
-        },
-        station: 0,
-        inside: 0,
-        t1: 0,
-        t2: 0,
-        spare: 0,
-    }
+    // `ListRecord::at` reads a record that is cut off too, which takes a step of a run some 16 instructions more.
+    let (records, _) = list.as_chunks();
+    let Some(bytes) = records.get(p) else {
+        return ListRecord::default();
+    };
+    let e = ListRecord::from(*bytes);
+    let own = Record {
+        a: e.own.a % 32,
+        b: e.own.b % 32,
+        ..e.own
+    };
+    ListRecord { own, ..e }
 }

@@ -7,41 +7,26 @@ ghost use Rattle.rules.specs.Words.{values};
 ghost use Rattle.rules.specs.Names.{max_stations};
 ghost use Rattle.rules.specs.Records.{list_record_at, pick_at};
 
-use record::{ListRecord, Record};
+use record::{ListRecord, Pick, Record};
 
 // Each station's first step, by its INIT; 0 from station n on.
 pub fn first_steps(list: &[u8], n: usize) -> [u16; 8]
     ensures { result ≡ values (λ j. (list_record_at list.now j).t1) (min n max_stations) ++ replicate (max_stations - min n max_stations) 0 }
 {
-    let mut positions = [0u16; 8];
-    let mut j: usize = 0;
-    while j < n && j < Record::MAX_STATIONS {
-        let e = ListRecord::at(list, j);
-        positions[j] = e.t1;
-        j += 1;
+    let mut positions = [0; 8];
+    for j in 0..n.min(Record::MAX_STATIONS) {
+        positions[j] = ListRecord::at(list, j).t1;
     }
     positions
-}
-
-// The reset of record j of a log; past its end 0.
-fn reset_at(log: &[u8], j: usize) -> u8
-    ensures { result ≡ (pick_at log.now j).reset }
-{
-    if j < log.len() / 2 {
-        return log[2 * j + 1];
-    }
-    0
 }
 
 // Each station's reset in the start records of a log; 0 from station n on.
 pub fn first_priorities(log: &[u8], n: usize) -> [i16; 8]
     ensures { result ≡ values (λ j. pos (pick_at log.now j).reset) (min n max_stations) ++ replicate (max_stations - min n max_stations) (pos 0) }
 {
-    let mut priorities = [0i16; 8];
-    let mut j: usize = 0;
-    while j < n && j < Record::MAX_STATIONS {
-        priorities[j] = reset_at(log, j) as i16;
-        j += 1;
+    let mut priorities = [0; 8];
+    for j in 0..n.min(Record::MAX_STATIONS) {
+        priorities[j] = Pick::at(log, j).reset as i16;
     }
     priorities
 }

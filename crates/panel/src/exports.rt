@@ -1,7 +1,7 @@
 // The calls, each under a plain name of its own, by which C calls it too: `panel_c` hands each on to C, and panel/press.h declares it there.
 ghost use Rattle.sequence.specs.Promises.{CheckPromise};
 ghost use Rattle.build.specs.Promises.{BuildPromise};
-ghost use Rattle.run.specs.View.{as_state};
+ghost use Rattle.state.specs.View.{as_state};
 ghost use Rattle.run.specs.Promises.{StartPromise, StepPromise, RunPromise, UndoPromise};
 ghost use Rattle.asking.specs.Promises.{ReadinessPromise};
 ghost use Rattle.explaining.specs.Promises.{WhyPromise};
@@ -12,7 +12,8 @@ use build::Built;
 use lights::Lights;
 use readiness::Told;
 use reason::Why;
-use run::{Outcome, Ran, State};
+use record::Pick;
+use run::{Calls, Outcome, Ran, State};
 use sequence::Checked;
 
 // Checks a written sequence: 0 and place 0, or the first refusal and its place.
@@ -49,7 +50,7 @@ pub fn press_step(
 ) -> Outcome
     ensures { StepPromise list.now (as_state state) (record { log = log.old; kept = kept.old }) (record { station = station; reset = reset }) result (record { log = log.new; kept = kept.new }) }
 {
-    state.step(list, log, kept, station, reset)
+    state.step(list, log, kept, Pick { station, reset })
 }
 
 // One step of a state lent: the state after it in the same place, its record in the log, and at a multiple of 64 the state in its kept place. A

@@ -4,7 +4,7 @@
 
 ghost use Rattle.sequence.specs.Promises.{CheckPromise};
 ghost use Rattle.build.specs.Promises.{BuildPromise};
-ghost use Rattle.run.specs.View.{as_state};
+ghost use Rattle.state.specs.View.{as_state};
 ghost use Rattle.run.specs.Promises.{StartPromise, StepPromise, RunPromise, UndoPromise};
 ghost use Rattle.asking.specs.Promises.{ReadinessPromise};
 ghost use Rattle.explaining.specs.Promises.{WhyPromise};

@@ -7,7 +7,7 @@ ghost use Rattle.parts.specs.Strides.{opened, grown, closed, stride_of};
 use record::Record;
 
 // An open list of statements: the kind that closes it, whether it stands in an AWAIT body, and whether it has a statement yet.
-#[derive(Clone, Copy)]
+#[derive(Clone, Copy, Debug, PartialEq, Eq)]
 pub struct Part {
     pub close: u8,
     pub body: bool,
@@ -15,7 +15,7 @@ pub struct Part {
 }
 
 // Where a record takes the reading of a part.
-#[derive(Clone, Copy)]
+#[derive(Clone, Copy, Debug, PartialEq, Eq)]
 pub enum Stride {
     // On, in the same list or in the one that takes its place.
     On(Part),
@@ -44,9 +44,8 @@ impl Part {
         ensures { result ≡ grown self }
     {
         Part {
-            close: self.close,
-            body: self.body,
             begun: true,
+            ..self
         }
     }
 
@@ -54,31 +53,25 @@ impl Part {
     pub fn closed(self) -> Stride
         ensures { result ≡ closed self }
     {
-        if self.close == Record::STATION {
-            Stride::On(Part::opened(Record::STATION, false))
-        } else if self.close == Record::ELSE {
-            Stride::On(Part::opened(Record::FI, self.body))
-        } else {
-            Stride::Out
+        match self.close {
+            Record::STATION => Stride::On(Part::opened(Record::STATION, false)),
+            Record::ELSE => Stride::On(Part::opened(Record::FI, self.body)),
+            _ => Stride::Out,
         }
     }
 
     // Where a record of this kind takes the reading.
+    #[tactic(auto, unfolding(crate::specs::Strides::stride_of))]
     pub fn stride(self, kind: u8) -> Stride
         ensures { result ≡ stride_of self kind }
     {
-        if kind == Record::SKIP || kind == Record::SET {
-            Stride::On(self.grown())
-        } else if kind == Record::IF {
-            Stride::Into(Part::opened(Record::ELSE, self.body))
-        } else if kind == Record::WHILE && !self.body {
-            Stride::Into(Part::opened(Record::OD, false))
-        } else if kind == Record::AWAIT && !self.body {
-            Stride::Into(Part::opened(Record::END, true))
-        } else if kind == self.close && self.begun {
-            self.closed()
-        } else {
-            Stride::Off
+        match kind {
+            Record::SKIP | Record::SET => Stride::On(self.grown()),
+            Record::IF => Stride::Into(Part::opened(Record::ELSE, self.body)),
+            Record::WHILE if !self.body => Stride::Into(Part::opened(Record::OD, false)),
+            Record::AWAIT if !self.body => Stride::Into(Part::opened(Record::END, true)),
+            _ if kind == self.close && self.begun => self.closed(),
+            _ => Stride::Off,
         }
     }
 }

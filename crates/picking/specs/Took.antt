@@ -35,6 +35,25 @@ took list s p =
     }
     else record { number = number; vars = s.vars; positions = s.positions; priorities = s.priorities; counts = s.counts }
 
+-- a state with the parts that it leaves: n, b and m stay
+abbrev pub with_parts : State → Took → State
+with_parts s t =
+    record {
+      vars = t.vars;
+      positions = t.positions;
+      priorities = t.priorities;
+      counts = t.counts;
+      n = s.n;
+      b = s.b;
+      m = s.m;
+    }
+
+-- so of a state, as the code holds it
+abbrev pub picked : List ℕ → State → Pick → Picked
+picked list s p =
+    let t = took list (state_of s.vars s.positions s.priorities s.counts s.n s.b) p in
+    record { number = t.number; state = with_parts s t }
+
 -- what a state becomes by it: a step more where it is taken
 abbrev pub after : State → Took → Picked
 after s t =

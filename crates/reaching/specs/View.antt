@@ -1,6 +1,6 @@
 -- The code's answer, seen as the rules' state and as the bytes of a text. These are definitions.
 use Rattle.rules.specs.Lent.{Lent}
-use Rattle.run.specs.View.{as_state}
+use Rattle.state.specs.View.{as_state}
 use Rattle.text.specs.View.{text_of}
 use Rattle.reaching.specs.Reaching as rules
 use Rattle.reaching.specs.declared.Reached.{Reached}

@@ -6,7 +6,7 @@ ghost use Rattle.tracing.specs.View.{as_tracing};
 ghost use Rattle.reaching.specs.Reaching.{reached};
 ghost use Rattle.reaching.specs.View.{as_reached};
 
-use run::State;
+use state::State;
 use text::Text;
 use tracing::Tracer;
 
@@ -27,14 +27,11 @@ pub fn reach(first: Tracer, list: &[u8], log: &mut [u8], kept: &mut [u8], picks:
     let mut text = Text::empty();
     while !tracer.done() {
         let printed = tracer.next(list, log, kept, picks);
-        let last = printed.text;
-        text = last;
-        let after = printed.tracer;
-        tracer = after;
+        text = printed.text;
+        tracer = printed.tracer;
     }
-    let state = tracer.state;
     Reached {
-        state,
+        state: tracer.state,
         count: tracer.count,
         text,
     }

@@ -3,22 +3,24 @@
 
 ghost use Rattle.std.specs.Prelude.{◌≡◌};
 ghost use Rattle.rules.specs.Ready.{told, readiness_at, says_ready, says_ended, says_waiting};
+ghost use Rattle.record.specs.Refusals.{told_number};
 ghost use Rattle.record.specs.View.{as_list_record};
 ghost use Rattle.readiness.specs.View.{as_readiness, as_told};
 
-use record::{ListRecord, Record};
+use record::{ListRecord, Record, Refusal};
 
 // What a station is: ready; ended, at a STOP; or waiting, at the AWAIT with this record number.
-#[derive(Clone, Copy)]
+#[derive(Clone, Copy, Debug, PartialEq, Eq)]
 pub enum Readiness {
     Ready,
     Ended,
     Waiting(u16),
 }
 
-// What that stands for: 0 where the station is ready, else the refusal of its pick; and the record where it waits, 0 where it does not.
+// What that stands for, as C reads it: 0 where the station is ready, else the refusal of its pick; and the record where it waits, 0 where
+// it does not.
 #[repr(C)]
-#[derive(Clone, Copy)]
+#[derive(Clone, Copy, Debug, PartialEq, Eq)]
 pub struct Told {
     pub number: u8,
     pub place: u16,
@@ -43,50 +45,45 @@ impl Readiness {
     pub fn is_ready(self) -> bool
         ensures { result ≡ says_ready (as_readiness self) }
     {
-        match self {
-            Readiness::Ready => true,
-            Readiness::Ended => false,
-            Readiness::Waiting(_) => false,
-        }
+        matches!(self, Readiness::Ready)
     }
 
     pub fn has_ended(self) -> bool
         ensures { result ≡ says_ended (as_readiness self) }
     {
-        match self {
-            Readiness::Ready => false,
-            Readiness::Ended => true,
-            Readiness::Waiting(_) => false,
-        }
+        matches!(self, Readiness::Ended)
     }
 
     pub fn is_waiting(self) -> bool
         ensures { result ≡ says_waiting (as_readiness self) }
     {
-        match self {
-            Readiness::Ready => false,
-            Readiness::Ended => false,
-            Readiness::Waiting(_) => true,
-        }
+        matches!(self, Readiness::Waiting(_))
     }
 
-    // The number and the place that this readiness stands for.
-    pub fn told(self) -> Told
-        ensures { as_told result ≡ told (as_readiness self) }
+    // What refuses the station's pick by this alone: nothing where it is ready.
+    pub fn refusal(self) -> Result<(), Refusal>
+        ensures { told_number result ≡ (told (as_readiness self)).number }
     {
         match self {
-            Readiness::Ready => Told {
-                number: 0,
-                place: 0,
-            },
-            Readiness::Ended => Told {
-                number: Record::ENDED,
-                place: 0,
-            },
-            Readiness::Waiting(place) => Told {
-                number: Record::NOT_READY,
-                place,
-            },
+            Readiness::Ready => Ok(()),
+            Readiness::Ended => Err(Refusal::Ended),
+            Readiness::Waiting(_) => Err(Refusal::NotReady),
+        }
+    }
+}
+
+// The number and the place that a readiness stands for.
+impl From<Readiness> for Told {
+    ghost from_gives = { λ r t. as_told t ≡ told (as_readiness r) };
+
+    fn from(r: Readiness) -> Told {
+        let place = match r {
+            Readiness::Waiting(place) => place,
+            Readiness::Ready | Readiness::Ended => 0,
+        };
+        Told {
+            number: Refusal::told(r.refusal()),
+            place,
         }
     }
 }

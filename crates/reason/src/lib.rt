@@ -5,10 +5,10 @@ ghost use Rattle.std.specs.Prelude.{◌≡◌, get_or};
 ghost use Rattle.rules.specs.Why.{bare, said, seen};
 ghost use Rattle.reason.specs.View.{as_seen, as_reason, as_why};
 
-use record::Record;
+use record::Refusal;
 
 // A variable that a condition names, and its value.
-#[derive(Clone, Copy)]
+#[derive(Clone, Copy, Debug, PartialEq, Eq)]
 pub struct Seen {
     pub variable: u8,
     pub value: u32,
@@ -16,7 +16,7 @@ pub struct Seen {
 
 // The reason: the station has ended; it waits at the AWAIT with this record number, for a variable or for two; it is behind this station; or
 // there is none, and it may be picked.
-#[derive(Clone, Copy)]
+#[derive(Clone, Copy, Debug, PartialEq, Eq)]
 pub enum Reason {
     Ended,
     Waiting(u16, Seen),
@@ -28,7 +28,7 @@ pub enum Reason {
 // What that stands for: 0 where the station may be picked, else the refusal of its pick; the station that is ahead of it; the record where it
 // waits; and how many variables its condition names, which they are, and their values. What does not go with the number is 0.
 #[repr(C)]
-#[derive(Clone, Copy)]
+#[derive(Clone, Copy, Debug, PartialEq, Eq)]
 pub struct Why {
     pub number: u8,
     pub ahead: u8,
@@ -43,41 +43,37 @@ impl Seen {
     pub fn of(vars: &[u32; 32], variable: u8) -> Seen
         ensures { as_seen result ≡ seen vars.now variable }
     {
-        let value = values::variable(vars, variable as usize);
-        Seen { variable, value }
+        Seen {
+            variable,
+            value: record::entry(vars, variable as usize, 0),
+        }
     }
 }
 
-impl Reason {
-    // The number and the values that this reason stands for.
-    pub fn said(self) -> Why
-        ensures { as_why result ≡ said (as_reason self) }
-    {
-        match self {
-            Reason::Ended => Why::bare(Record::ENDED),
+impl From<Reason> for Why {
+    ghost from_gives = { λ reason r. as_why r ≡ said (as_reason reason) };
+
+    // The number and the values that a reason stands for.
+    fn from(reason: Reason) -> Why {
+        match reason {
+            Reason::Ended => Why::bare(Refusal::Ended.number()),
             Reason::Waiting(place, first) => Why {
-                number: Record::NOT_READY,
-                ahead: 0,
                 place,
                 count: 1,
                 variables: [first.variable, 0],
                 values: [first.value, 0],
+                ..Why::bare(Refusal::NotReady.number())
             },
             Reason::WaitingTwo(place, first, second) => Why {
-                number: Record::NOT_READY,
-                ahead: 0,
                 place,
                 count: 2,
                 variables: [first.variable, second.variable],
                 values: [first.value, second.value],
+                ..Why::bare(Refusal::NotReady.number())
             },
             Reason::Behind(ahead) => Why {
-                number: Record::TURN,
                 ahead,
-                place: 0,
-                count: 0,
-                variables: [0, 0],
-                values: [0, 0],
+                ..Why::bare(Refusal::Turn.number())
             },
             Reason::MayBePicked => Why::bare(0),
         }
@@ -94,8 +90,8 @@ impl Why {
             ahead: 0,
             place: 0,
             count: 0,
-            variables: [0, 0],
-            values: [0, 0],
+            variables: [0; 2],
+            values: [0; 2],
         }
     }
 
@@ -103,17 +99,9 @@ impl Why {
     pub fn seen(self, i: usize) -> Seen
         ensures { result ≡ record { variable = get_or self.variables i 0; value = get_or self.values i 0 } }
     {
-        let variables = self.variables;
-        let values = self.values;
-        if i < 2 {
-            return Seen {
-                variable: variables[i],
-                value: values[i],
-            };
-        }
         Seen {
-            variable: 0,
-            value: 0,
+            variable: record::entry(&self.variables, i, 0),
+            value: record::entry(&self.values, i, 0),
         }
     }
 }

@@ -1,7 +1,6 @@
 -- What is read from the part of a buffer that begins at a kept place: the state in that place, or zeros where the part is shorter than
 -- a place. Assumes nothing.
-use Rattle.std.specs.Prelude.{if◌then◌else◌}
-use Prim.Native.Nat.{ℕ, ◌+◌, ◌≤◌, ◌<◌}
+use Prim.Native.Nat.{ℕ, ◌+◌, ◌≤◌}
 use mathlib.Core.Path.{◌≡◌}
 use mathlib.Core.Bool.{true}
 use mathlib.Core.List.{List}
@@ -10,23 +9,13 @@ use native.Mathlib.Omega.{arith}
 use lib.Dec.{leb}
 use lib.ListN.{length, drop, length-drop}
 use lib.Seq.{get_or-drop}
-use borrow.Author.Tests.{le-leb, lt-leb}
+use borrow.Author.Tests.{le-leb}
 use Rattle.rules.specs.Names.{kept_length}
-use Rattle.rules.specs.State.{State, zeros}
 use Rattle.rules.specs.Kept.{kept_offset, kept_state, kept_zeros}
-use Rattle.laws.proofs.Choice.{by_test}
 use Rattle.recalling.specs.Recalled.{recalled}
-
-pub recalled_short : (part : List ℕ) → length part < kept_length → recalled part ≡ zeros
-recalled_short part short = rw (lt-leb kept_length (length part) short)
 
 pub recalled_whole : (part : List ℕ) → kept_length ≤ length part → recalled part ≡ kept_state part 1
 recalled_whole part whole = rw (le-leb kept_length (length part) whole)
-
--- a part of the state, where it is read or zero as the state is
-pub part_recalled : {A : Type 0} (f : State → A) (part : List ℕ)
-    → (if leb kept_length (length part) then f (kept_state part 1) else f zeros) ≡ f (recalled part)
-part_recalled f part = by_test (leb kept_length (length part)) (λ e. rw e) (λ e. rw e)
 
 module _ (kept : List ℕ) (j : ℕ) where
   -- a place that the buffer has is whole in the part that begins there

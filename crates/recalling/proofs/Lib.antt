@@ -1,3 +1,3 @@
 -- Laws that the proofs of the functions share.
-pub mod Row
+pub mod Filling
 pub mod Known

@@ -1,91 +1,34 @@
-// The state in a kept place, read part by part from the bytes of a buffer that begin there. docs/KEPT.md gives the bytes of a kept
-// place. Where there are fewer than its 184 everything is zero.
+// The state in a kept place, read from the bytes of a buffer that begin there. docs/KEPT.md gives the bytes of a kept place. Where there
+// are fewer than its 184 everything is zero.
 #![tactic(auto)]
 
-ghost use Rattle.std.specs.Prelude.{◌≡◌, ◌&&◌, ◌+◌, ◌*◌, ◌≤◌, eqb, leb, length, get_or, replicate, if◌then◌else◌};
-ghost use Rattle.rules.specs.Words.{each, values};
-ghost use Rattle.rules.specs.Names.{max_stations, kept_length};
-ghost use Rattle.rules.specs.Records.{half};
+ghost use Rattle.std.specs.Prelude.{◌≡◌, ℕ, List, ◌&&◌, ◌+◌, ◌*◌, ◌≤◌, leb, length};
+ghost use Rattle.rules.specs.Words.{values};
+ghost use Rattle.rules.specs.Names.{kept_length};
+ghost use Rattle.rules.specs.Records.{half, word};
 ghost use Rattle.rules.specs.Kept.{lowered, kept_zeros};
+ghost use Rattle.state.specs.View.{as_state};
 ghost use Rattle.recalling.specs.Recalled.{recalled};
 
 use record::Record;
+use state::State;
 
-// The state's variables.
-pub fn vars(part: &[u8]) -> [u32; 32]
-    ensures { result ≡ (recalled part.now).vars }
-{
-    let mut vars = [0u32; 32];
-    if part.len() < Record::KEPT_LENGTH {
-        return vars;
-    }
-    let mut v: usize = 0;
-    while v < Record::VARIABLES {
-        let at = 4 * v;
-        vars[v] = record::word(part[at], part[at + 1], part[at + 2], part[at + 3]);
-        v += 1;
-    }
-    vars
-}
-
-// The state's positions.
-pub fn positions(part: &[u8]) -> [u16; 8]
-    ensures { result ≡ (recalled part.now).positions }
-{
-    row_at(part, Record::KEPT_POSITIONS)
-}
-
-// The state's priorities.
-pub fn priorities(part: &[u8]) -> [i16; 8]
-    ensures { result ≡ (recalled part.now).priorities }
-{
-    let mut priorities = [0i16; 8];
-    if part.len() < Record::KEPT_LENGTH {
-        return priorities;
-    }
-    let mut j: usize = 0;
-    while j < Record::MAX_STATIONS {
-        priorities[j] = lowered(half_at(part, Record::KEPT_PRIORITIES + 2 * j));
-        j += 1;
-    }
-    priorities
-}
-
-// The state's counts.
-pub fn counts(part: &[u8]) -> [u16; 8]
-    ensures { result ≡ (recalled part.now).counts }
-{
-    row_at(part, Record::KEPT_COUNTS)
-}
-
-// The state's n.
-pub fn n(part: &[u8]) -> u8
-    ensures { result ≡ (recalled part.now).n }
+// The state in the place.
+pub fn state(part: &[u8]) -> State
+    ensures { as_state result ≡ recalled part.now }
 {
     if part.len() < Record::KEPT_LENGTH {
-        return 0;
+        return State::zeros();
     }
-    part[Record::KEPT_N]
-}
-
-// The state's B.
-pub fn b(part: &[u8]) -> u8
-    ensures { result ≡ (recalled part.now).b }
-{
-    if part.len() < Record::KEPT_LENGTH {
-        return 0;
+    State {
+        vars: row(part, 0),
+        positions: row(part, Record::KEPT_POSITIONS),
+        priorities: row(part, Record::KEPT_PRIORITIES),
+        counts: row(part, Record::KEPT_COUNTS),
+        n: part[Record::KEPT_N],
+        b: part[Record::KEPT_N + 1],
+        m: u16::read(part, Record::KEPT_N + 2),
     }
-    part[Record::KEPT_N + 1]
-}
-
-// The state's m.
-pub fn m(part: &[u8]) -> u16
-    ensures { result ≡ (recalled part.now).m }
-{
-    if part.len() < Record::KEPT_LENGTH {
-        return 0;
-    }
-    half_at(part, Record::KEPT_N + 2)
 }
 
 // Whether the bytes are there and those that are said to be zero are.
@@ -95,51 +38,54 @@ pub fn zeros(part: &[u8]) -> bool
     if part.len() < Record::KEPT_LENGTH {
         return false;
     }
-    zero_from(
-        part,
-        Record::KEPT_ORDER,
-        Record::KEPT_LENGTH - Record::KEPT_ORDER,
-    )
+    let order = &part[Record::KEPT_ORDER..Record::KEPT_LENGTH];
+    order.iter().all(|byte| *byte == 0)
 }
 
-// Whether so many bytes from an offset on are zero.
-fn zero_from(part: &[u8], at: usize, count: usize) -> bool
-    requires { at + count ≤ length part.now }
-    ensures { result ≡ each (λ i. eqb (get_or part.now (at + i) 0) 0) count }
+// A row of numbers that are kept in N bytes each, from an offset on.
+fn row<const N: usize, const LEN: usize, T: Spelled<N>>(part: &[u8], at: usize) -> [T; LEN]
+    requires { at + N * LEN ≤ length part.now }
+    ensures { result ≡ values (λ i. T.spelled part.now (at + N * i)) LEN }
 {
-    let mut i: usize = 0;
-    while i < count {
-        if part[at + i] != 0 {
-            return false;
-        }
-        i += 1;
-    }
-    true
-}
-
-// The numbers of the stations that are kept from an offset on, two bytes each.
-fn row_at(part: &[u8], at: usize) -> [u16; 8]
-    requires { at + 2 * max_stations ≤ kept_length }
-    ensures { result ≡ (if leb kept_length (length part.now) then values (λ j. half part.now (at + 2 * j)) max_stations else replicate max_stations 0) }
-{
-    let mut row = [0u16; 8];
-    if part.len() < Record::KEPT_LENGTH {
-        return row;
-    }
-    let mut j: usize = 0;
-    while j < Record::MAX_STATIONS {
-        row[j] = half_at(part, at + 2 * j);
-        j += 1;
+    let mut row = [T::default(); LEN];
+    for i in 0..LEN {
+        row[i] = T::read(part, at + N * i);
     }
     row
 }
 
-// Two bytes from an offset on, low byte first.
-fn half_at(part: &[u8], at: usize) -> u16
-    requires { at + 2 ≤ length part.now }
-    ensures { result ≡ half part.now at }
-{
-    record::half(part[at], part[at + 1])
+// A number that is kept in N bytes, low byte first.
+trait Spelled<const N: usize>: Copy + Default {
+    // what the bytes from an offset on spell
+    ghost spelled: { List ℕ → ℕ → Self };
+
+    fn read(part: &[u8], at: usize) -> Self
+        requires { at + N ≤ length part.now }
+        ensures { result ≡ spelled part.now at };
+}
+
+impl Spelled<4> for u32 {
+    ghost spelled = { word };
+
+    fn read(part: &[u8], at: usize) -> u32 {
+        u32::from_le_bytes([part[at], part[at + 1], part[at + 2], part[at + 3]])
+    }
+}
+
+impl Spelled<2> for u16 {
+    ghost spelled = { half };
+
+    fn read(part: &[u8], at: usize) -> u16 {
+        u16::from_le_bytes([part[at], part[at + 1]])
+    }
+}
+
+impl Spelled<2> for i16 {
+    ghost spelled = { λ part at. lowered (half part at) };
+
+    fn read(part: &[u8], at: usize) -> i16 {
+        lowered(u16::read(part, at))
+    }
 }
 
 // The priority that is kept as this number, 32,768 less.

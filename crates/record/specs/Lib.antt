@@ -1,2 +1,4 @@
--- The code's records, set beside the rules.
+-- The code's records and refusals, set beside the rules.
+pub mod Bytes
+pub mod Refusals
 pub mod View

@@ -1,9 +1,9 @@
 -- The records of the code, seen as the records of the rules. These are definitions.
 use Rattle.std.specs.Prelude.{ℕ, ◌+◌, List, get_or}
-use Rattle.rules.specs.Words.{values}
 use Rattle.rules.specs.Records as rules
 use Rattle.record.specs.declared.Record.{Record}
 use Rattle.record.specs.declared.ListRecord.{ListRecord}
+use Rattle.record.specs.declared.Pick.{Pick}
 
 abbrev pub as_record : Record → rules.Record
 as_record r = record { kind = r.kind; a = r.a; b = r.b; op = r.op; k = r.k }
@@ -31,6 +31,5 @@ list_record_from bytes at =
       spare = rules.half bytes (at + 14);
     }
 
--- the sixteen bytes from an offset, zeros past the end
-abbrev pub sixteen_from : List ℕ → ℕ → List ℕ
-sixteen_from bytes at = values (λ i. get_or bytes (at + i) 0) 16
+abbrev pub as_pick : Pick → rules.Pick
+as_pick p = record { station = p.station; reset = p.reset }

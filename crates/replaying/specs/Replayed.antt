@@ -2,9 +2,10 @@
 use Rattle.std.specs.Prelude.{ℕ, zero, suc, List, eqb, if◌then◌else◌}
 use Rattle.rules.specs.Records.{pick_at}
 use Rattle.rules.specs.State.{State}
+use Rattle.rules.specs.Step.{Picked}
 use Rattle.rules.specs.Undo.{Undone}
 use Rattle.laws.specs.Narrow.{narrow}
-use Rattle.picking.specs.Took.{Took, state_of, took}
+use Rattle.picking.specs.Took.{Took, state_of, took, with_parts}
 
 -- so many records, from record i on: the parts after them; or those before the first that is refused, and its refusal
 unfoldable pub took_from : List ℕ → List ℕ → ℕ → ℕ → ℕ → ℕ → Took → Took
@@ -20,3 +21,9 @@ took_of number s =
 
 abbrev pub as_took : Undone → Took
 as_took u = took_of u.number u.state
+
+-- so of a state, as the code holds it
+abbrev pub replayed : List ℕ → List ℕ → ℕ → ℕ → State → Picked
+replayed list log i count s =
+    let t = took_from list log s.n s.b i count (took_of 0 s) in
+    record { number = t.number; state = with_parts s t }

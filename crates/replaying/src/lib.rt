@@ -1,55 +1,28 @@
-// The replay of a log's records on the parts of a state.
+// The replay of a log's records on a state.
 #![tactic(auto)]
 
-ghost use Rattle.std.specs.Prelude.{◌≡◌, get_or};
-ghost use Rattle.replaying.specs.Replayed.{took_from};
+ghost use Rattle.std.specs.Prelude.{◌≡◌};
+ghost use Rattle.record.specs.Refusals.{told_number};
+ghost use Rattle.state.specs.View.{as_state};
+ghost use Rattle.replaying.specs.Replayed.{replayed};
 
-// Byte i of a log; 0 past its end.
-fn byte(log: &[u8], i: usize) -> u8
-    ensures { result ≡ get_or log.now i 0 }
-{
-    if i < log.len() {
-        return log[i];
-    }
-    0
-}
+use record::{Pick, Refusal};
+use state::State;
 
-// Replays so many records of a log, from a record on, on any list and the parts of any state, which are changed where they are: 0, or the
-// refusal of the first that is refused. A record past the end of the log is zeros.
+// Replays so many records of a log, from a record on, on any list and any state, which is changed where it is; or refuses with the refusal of the
+// first that is refused. A record past the end of the log is zeros. The steps that stand are the caller's to count.
 pub fn replay(
     list: &[u8],
     log: &[u8],
-    vars: &mut [u32; 32],
-    positions: &mut [u16; 8],
-    priorities: &mut [i16; 8],
-    counts: &mut [u16; 8],
-    n: u8,
-    b: u8,
+    state: &mut State,
     first: u16,
     count: u16,
-) -> u8
-    ensures { record { number = result; vars = vars.new; positions = positions.new; priorities = priorities.new; counts = counts.new } ≡ took_from list.now log.now n b first count (record { number = 0; vars = vars.old; positions = positions.old; priorities = priorities.old; counts = counts.old }) }
+) -> Result<(), Refusal>
+    ensures { record { number = told_number result; state = as_state state.new } ≡ replayed list.now log.now first count (as_state state.old) }
 {
-    let mut i = first as usize;
-    let mut left = count as usize;
-    while 0 < left {
-        let at = 2 * i;
-        let number = picking::pick(
-            list,
-            vars,
-            positions,
-            priorities,
-            counts,
-            n,
-            b,
-            byte(log, at),
-            byte(log, at + 1),
-        );
-        if number != 0 {
-            return number;
-        }
-        i += 1;
-        left -= 1;
+    let start = first as usize;
+    for i in start..start + count as usize {
+        picking::pick(list, state, Pick::at(log, i))?;
     }
-    0
+    Ok(())
 }

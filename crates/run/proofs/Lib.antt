@@ -1,4 +1,5 @@
 pub mod Runs
 pub mod Replays
 pub mod Only
+pub mod Judged
 pub mod Parts

@@ -9,7 +9,7 @@ use Rattle.rules.specs.Start as rules_start
 use Rattle.rules.specs.Step as rules_step
 use Rattle.rules.specs.Run as rules_run
 use Rattle.rules.specs.Undo as rules_undo
-use Rattle.run.specs.declared.State.{State}
+use Rattle.state.specs.declared.State.{State}
 use Rattle.run.specs.declared.Outcome.{Outcome}
 use Rattle.run.specs.declared.Ran.{Ran}
 use Rattle.run.specs.Promises.{StartPromise, StepPromise, RunPromise, UndoPromise}

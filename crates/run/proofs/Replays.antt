@@ -92,17 +92,12 @@ module _ (list : List ℕ) (s : State) (lent : Lent) (can : CanReplay list s len
   near_b = by_test (eqb q 0) (λ e. rw e) (λ e. rw e ((kept_passed list lent.kept s.b q).0 (can.kept_used e)).b_is)
 
   -- so that a replay of its parts is the rules'
-  pub near_took : s.b < 256 → {t : Took} → t ≡ took_from list lent.log s.n s.b (s.n + kept_every * q) count (took_of 0 near)
-      → t ≡ as_took (replayed_near list lent s.b s.m)
+  pub near_took : s.b < 256 → took_from list lent.log near.n near.b (s.n + kept_every * q) count (took_of 0 near) ≡ as_took (replayed_near list lent s.b s.m)
   unfolding replayed_near
-  near_took small is =
-      let parts : Took = took_of 0 near in
+  near_took small =
       let at : s.n + kept_every * q ≡ stations list + kept_every * q = omega (arith, counted) in
       let sound = nearest_sound list s lent can in
-      is
-      ∙ ap (λ (n : ℕ). took_from list lent.log n s.b (s.n + kept_every * q) count parts) (sym near_n)
-      ∙ ap (λ (b : ℕ). took_from list lent.log near.n b (s.n + kept_every * q) count parts) (sym near_b)
-      ∙ replay_known list lent.log (s.n + kept_every * q) count near (nearest_held list lent s.b q can.of_list)
+      replay_known list lent.log (s.n + kept_every * q) count near (nearest_held list lent s.b q can.of_list)
       (record { of_list = can.of_list; of_state = sound.0 }) (omega (arith, small, near_b)) (omega (arith, sound.1, few_steps, can.some_steps))
       ∙ ap (λ (i : ℕ). as_took (replay list lent.log i count near)) at
 

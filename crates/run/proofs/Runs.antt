@@ -7,12 +7,13 @@ use native.Mathlib.Omega.{arith}
 use lib.Dec.{eqb}
 use borrow.Author.Tests.{eq-eqb}
 use Rattle.rules.specs.Words.{refusal}
-use Rattle.rules.specs.Records.{pick_at}
+use Rattle.rules.specs.Records.{Pick, pick_at}
 use Rattle.rules.specs.State.{State}
 use Rattle.rules.specs.Lent.{Lent}
 use Rattle.rules.specs.Step.{step_tests, step}
 use Rattle.rules.specs.Run.{Ran, one_more, steps_from}
 use Rattle.laws.proofs.Choice.{by_test}
+use Rattle.stepping.specs.Logged.{room_left, logged}
 
 -- counted on from k steps
 abbrev pub counted : ℕ → Ran → Ran
@@ -55,3 +56,8 @@ module _ (list picks : List ℕ) (count k : ℕ) (s : State) (lent : Lent) where
       by_test (eqb (refusal (step_tests list s lent (pick_at picks k))) 0)
       (λ e. let z : (step list s lent (pick_at picks k)).number ≡ 0 = rw e in absurd (refused z))
       (λ e. rw (left, e, e, none))
+
+-- a step leaves B as it is
+pub logged_b : (list : List ℕ) (s : State) (lent : Lent) (p : Pick) → (logged list s lent p).state.b ≡ s.b
+unfolding logged
+logged_b list s lent p = by_test (eqb (refusal (room_left s lent)) 0) (λ e. rw e) (λ e. rw e)

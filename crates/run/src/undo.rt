@@ -1,142 +1,72 @@
 // UNDO: the state before the last of the standing steps, reached again from the nearest kept state at or below it, or from the start records.
-ghost use Rattle.std.specs.Prelude.{◌≡◌, true, ◌+◌, ◌*◌, ◌≤◌, ltb, length};
+ghost use Rattle.std.specs.Prelude.{◌≡◌, Option, Some, None, Result, option_map, ◌+◌, ◌*◌, ◌≤◌, ◌<◌, ltb, length, IfOk, if◌then◌else◌};
 ghost use Rattle.rules.specs.Words.{refusal};
 ghost use Rattle.rules.specs.Names.{kept_length};
-ghost use Rattle.rules.specs.List.{sound_list};
-ghost use Rattle.rules.specs.Kept.{kept_offset, kept_right};
-ghost use Rattle.rules.specs.Undo.{nearest_state, before_replay};
-ghost use Rattle.recalling.specs.Recalled.{recalled};
-ghost use Rattle.run.specs.View.{as_state};
-ghost use Rattle.run.specs.Promises.{UndoPromise};
+ghost use Rattle.rules.specs.Kept.{kept_offset, kept_state, kept_right};
+ghost use Rattle.rules.specs.Undo as rules;
+ghost use Rattle.record.specs.Refusals.{told_number};
+ghost use Rattle.state.specs.View.{as_state};
+ghost use Rattle.run.specs.View.{as_answer};
 
-use crate::{Outcome, State, begin};
-use record::Record;
+use crate::begin;
+use record::{Record, Refusal};
+use state::State;
 
-impl State {
-    // The state before the last step, made anew from the log and the kept states. Both stay.
-    pub fn undo(self, list: &[u8], log: &[u8], kept: &[u8]) -> Outcome
-        ensures { UndoPromise list.now (as_state self) (record { log = log.now; kept = kept.now }) result }
-    {
-        let number = self.undo_refusal(list, log, kept);
-        if number != 0 {
-            return Outcome {
-                number,
-                state: self,
-            };
-        }
-        let n = self.n;
-        let b = self.b;
-        let target = self.m - 1;
-        let place = target / Record::KEPT_EVERY;
-        let before = Record::KEPT_EVERY * place;
-        let mut back = nearest(list, b, log, kept, place);
-        let mut positions = back.positions;
-        let mut priorities = back.priorities;
-        let mut counts = back.counts;
-        let number = replaying::replay(
-            list,
-            log,
-            &mut back.vars,
-            &mut positions,
-            &mut priorities,
-            &mut counts,
-            n,
-            b,
-            n as u16 + before,
-            target - before,
-        );
-        if number != 0 {
-            return Outcome {
-                number: Record::LOG,
-                state: self,
-            };
-        }
-        back.positions = positions;
-        back.priorities = priorities;
-        back.counts = counts;
-        back.m = target;
-        Outcome {
-            number: 0,
-            state: back,
-        }
+// The state before the last step.
+pub(crate) fn undone(list: &[u8], state: &State, log: &[u8], kept: &[u8]) -> Result<State, Refusal>
+    requires { state.now.b < 256 }
+    ensures { record { number = told_number result; state = as_answer result (as_state state.now) } ≡ rules.undo list.now (as_state state.now) (record { log = log.now; kept = kept.now }) }
+{
+    let mut back = nearest(list, state, log, kept)?;
+    let target = state.m - 1;
+    let before = Record::KEPT_EVERY * (target / Record::KEPT_EVERY);
+    let first = state.n as u16 + before;
+    if replaying::replay(list, log, &mut back, first, target - before).is_err() {
+        return Err(Refusal::Log);
     }
-
-    // What refuses an undo, of its tests in their order but the last, the replay. 0 where nothing does.
-    fn undo_refusal(self, list: &[u8], log: &[u8], kept: &[u8]) -> u8
-        ensures { result ≡ refusal (before_replay list.now (as_state self) (record { log = log.now; kept = kept.now })) }
-    {
-        if !list::sound(list) {
-            return Record::LIST;
-        }
-        if !self.sound(list) {
-            return Record::STATE;
-        }
-        if self.m == 0 {
-            return Record::EMPTY;
-        }
-        if kept.len() < Record::KEPT_LENGTH * Record::MAX_KEPT {
-            return Record::ROOM;
-        }
-        let place = (self.m - 1) / Record::KEPT_EVERY;
-        let short = self.log_short(log);
-        if 0 < place {
-            if !right(list, kept, self.b, place) {
-                return Record::STATE;
-            }
-            if short {
-                return Record::LOG;
-            }
-            return 0;
-        }
-        if short {
-            return Record::LOG;
-        }
-        if !starts::right(log, self.n, self.b) {
-            return Record::LOG;
-        }
-        0
-    }
-
-    // Whether a log is too short for the records of the state's steps.
-    fn log_short(self, log: &[u8]) -> bool
-        ensures { result ≡ ltb (length log.now) (2 * (self.n + self.m)) }
-    {
-        log.len() < 2 * (self.n as usize + self.m as usize)
-    }
+    back.m = target;
+    Ok(back)
 }
 
-// Whether the state in a kept place that the buffer has may be gone on from.
-fn right(list: &[u8], kept: &[u8], b: u8, place: u16) -> bool
-    requires { (1 ≤ place) × (kept_offset place + kept_length ≤ length kept.now) }
-    ensures { result ≡ kept_right list.now kept.now b place }
+// The state that a replay begins with, that in a kept place or that of the start records; or the first of the tests before it that refuses.
+fn nearest(list: &[u8], state: &State, log: &[u8], kept: &[u8]) -> Result<State, Refusal>
+    ensures number { told_number result ≡ refusal (rules.before_replay list.now (as_state state.now) (record { log = log.now; kept = kept.now })) }
+    ensures state { IfOk result (λ s. as_state s ≡ rules.nearest_state list.now (record { log = log.now; kept = kept.now }) state.now.b (rules.nearest state.now.m)) }
 {
-    let at = Record::KEPT_LENGTH * (place as usize - 1);
-    usable::right(list, &kept[at..], b, place)
-}
-
-// The state that a replay begins with: that in a kept place that the buffer has, or for 0 that of the start records.
-fn nearest(list: &[u8], b: u8, log: &[u8], kept: &[u8], place: u16) -> State
-    requires { (sound_list list.now ≡ true) × (kept_offset place + kept_length ≤ length kept.now) }
-    ensures { as_state result ≡ nearest_state list.now (record { log = log.now; kept = kept.now }) b place }
-{
+    whole::judged(list, state)?;
+    if state.m == 0 {
+        return Err(Refusal::Empty);
+    }
+    if kept.len() < Record::KEPT_LENGTH * Record::MAX_KEPT {
+        return Err(Refusal::Room);
+    }
+    let place = (state.m - 1) / Record::KEPT_EVERY;
+    let short = log_short(log, state);
     if place == 0 {
-        return begin::begun(list, b, log);
+        if short || !starts::right(log, state.n, state.b) {
+            return Err(Refusal::Log);
+        }
+        return Ok(begin::begun(list, state.b, log));
     }
-    let at = Record::KEPT_LENGTH * (place as usize - 1);
-    recalled(&kept[at..])
+    let back = in_place(list, kept, state.b, place).ok_or(Refusal::State)?;
+    if short {
+        return Err(Refusal::Log);
+    }
+    Ok(back)
 }
 
-// The state in the part of a buffer that begins at a kept place.
-fn recalled(part: &[u8]) -> State
-    ensures { as_state result ≡ recalled part.now }
+// Whether a log is too short for the records of the state's steps.
+fn log_short(log: &[u8], state: &State) -> bool
+    ensures { result ≡ ltb (length log.now) (2 * (state.now.n + state.now.m)) }
 {
-    State {
-        vars: recalling::vars(part),
-        positions: recalling::positions(part),
-        priorities: recalling::priorities(part),
-        counts: recalling::counts(part),
-        n: recalling::n(part),
-        b: recalling::b(part),
-        m: recalling::m(part),
-    }
+    log.len() < 2 * (state.n as usize + state.m as usize)
+}
+
+// The state in a kept place that the buffer has, where it may be gone on from.
+fn in_place(list: &[u8], kept: &[u8], b: u8, place: u16) -> Option<State>
+    requires { (1 ≤ place) × (kept_offset place + kept_length ≤ length kept.now) }
+    ensures { option_map as_state result ≡ (if kept_right list.now kept.now b place then Some (kept_state kept.now place) else None) }
+{
+    let at = Record::KEPT_LENGTH * (place as usize - 1);
+    usable::state(list, &kept[at..], b, place)
 }

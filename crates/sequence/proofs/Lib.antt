@@ -1,3 +1,4 @@
-pub mod Stations
+pub mod Below
+pub mod Chunks
 pub mod Tests
 pub mod Only

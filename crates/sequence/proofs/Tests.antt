@@ -1,8 +1,9 @@
 -- The five tests in their order: the first that refuses gives the answer. Assumes nothing.
-use mathlib.Core.Path.{◌≡◌}
+use Rattle.std.proofs.Common.{Some, None, Ok, Err}
+use mathlib.Core.Path.{◌≡◌, sym, ◌∙◌}
 use mathlib.Core.Bool.{true, false, ◌||◌, not}
 use mathlib.Core.List.{List, [], ◌∷◌}
-use Prim.Native.Nat.{ℕ, ◌*◌, ◌%◌, ◌≤◌, ◌<◌, zero-le}
+use Prim.Native.Nat.{ℕ, ◌*◌, ◌%◌, ◌≤◌, zero-le}
 use native.Mathlib.Omega.{arith}
 use lib.Dec.{eqb}
 use lib.ListN.{length}
@@ -13,26 +14,19 @@ use Rattle.rules.specs.Records.{record_count}
 use Rattle.rules.specs.Shape.{Stand, initial, stride, is_wrong, wrong_at, well_shaped, shape_place}
 use Rattle.rules.specs.Check.{kinds, wrong_length, field_place, depth_place, check}
 use Rattle.laws.proofs.Choice.{by_test, neither}
-use Rattle.shape.specs.declared.Shape.TheVariants.{Whole, Broken}
 use Rattle.shape.specs.File.{shape_of, file_shape}
 use Rattle.laws.proofs.Kind.{length_kinds}
 use Rattle.sequence.specs.Answer.{answer, wrong_count}
+use Rattle.sequence.proofs.Below.{below, some_below, none_below}
 
 -- a file that is not well shaped, and its place
-well : (kinds : List ℕ) → shape_of kinds ≡ Whole → not (well_shaped kinds) ≡ false
-well kinds e =
-    by_test (well_shaped kinds) (λ w. rw w)
-    (λ w. absurd (let f = rw w at e in let z : ◌≡◌ {A = ℕ} 0 1 = cc in omega arith))
+well : (kinds : List ℕ) → shape_of kinds ≡ Ok tt → not (well_shaped kinds) ≡ false
+well kinds e = by_test (well_shaped kinds) (λ w. rw w) (λ w. let f = rw w at e in cc)
 
-ill : (kinds : List ℕ) (place : ℕ) → shape_of kinds ≡ Broken place → not (well_shaped kinds) ≡ true
+ill : (kinds : List ℕ) (place : ℕ) → shape_of kinds ≡ Err place → (not (well_shaped kinds) ≡ true) × (shape_place kinds ≡ place)
 ill kinds place e =
-    by_test (well_shaped kinds) (λ w. absurd (let f = rw w at e in let z : ◌≡◌ {A = ℕ} 0 1 = cc in omega arith))
-    (λ w. rw w)
-
-ill_at : (kinds : List ℕ) (place : ℕ) → shape_of kinds ≡ Broken place → shape_place kinds ≡ place
-ill_at kinds place e =
-    by_test (well_shaped kinds) (λ w. absurd (let f = rw w at e in let z : ◌≡◌ {A = ℕ} 0 1 = cc in omega arith))
-    (λ w. let f = rw w at e in cc)
+    by_test (well_shaped kinds) (λ w. let f = rw w at e in absurd cc)
+    (λ w. let f = rw w at e in (rw w, cc))
 
 wrong_within : (stand : Stand) (kinds : List ℕ) → wrong_at stand kinds ≤ length kinds
 unfolding wrong_at
@@ -54,36 +48,43 @@ module _ (file : List ℕ) where
         let uneven_or_none = not (eqb (length file % 8) 0) || eqb (length file) 0 in
         ltb-false (8 * max_records) (length file) (neither uneven_or_none _ a).1
 
-    pub few : record_count file ≤ max_records
-    few = omega (arith, short)
+    pub place_few : (p place : ℕ) → below (record_count file) p ≡ Some place → place ≤ max_records
+    place_few p place e = let h = some_below _ _ _ e in omega (arith, short)
 
     -- and the file's shape is read
     pub shape_read : file_shape file ≡ shape_of (kinds file)
     shape_read = rw (le-leb _ _ short)
 
-    pub field_refuses : (place : ℕ) → place ≡ field_place file → place < record_count file → check file ≡ answer FIELD place
-    unfolding check judge
-    field_refuses place e h = rw (a, ← e, lt-ltb _ _ h)
+    pub shape_few : (place : ℕ) → file_shape file ≡ Err place → place ≤ max_records
+    shape_few place e =
+        let ill_at : shape_place (kinds file) ≡ place = (ill (kinds file) place (sym shape_read ∙ e)).1 in
+        let h : place ≤ record_count file = rw (ill_at, length_kinds file) at (wrong_within initial (kinds file)) in
+        omega (arith, short)
 
-    module _ (b : record_count file ≤ field_place file) where
+    pub field_refuses : (place : ℕ) → below (record_count file) (field_place file) ≡ Some place → check file ≡ answer FIELD place
+    unfolding check judge
+    field_refuses place e = let (at, within) = some_below _ _ _ e in rw (a, at, lt-ltb _ _ within)
+
+    module _ (b : below (record_count file) (field_place file) ≡ None) where
       pub count_refuses : wrong_count file ≡ true → check file ≡ answer COUNT 0
       unfolding check judge
-      count_refuses d = rw (a, le-ltb _ _ b, d)
+      count_refuses d = rw (a, le-ltb _ _ (none_below _ _ b), d)
 
       module _ (d : wrong_count file ≡ false) where
-        pub shape_refuses : (place : ℕ) → shape_of (kinds file) ≡ Broken place → check file ≡ answer SHAPE place
+        pub shape_refuses : (place : ℕ) → file_shape file ≡ Err place → check file ≡ answer SHAPE place
         unfolding check judge
-        shape_refuses place e = rw (a, le-ltb _ _ b, d, ill (kinds file) place e, ill_at (kinds file) place e)
+        shape_refuses place e =
+            let (broken, at) = ill (kinds file) place (sym shape_read ∙ e) in
+            rw (a, le-ltb _ _ (none_below _ _ b), d, broken, at)
 
-        module _ (e : shape_of (kinds file) ≡ Whole) where
-          pub depth_refuses : (place : ℕ) → place ≡ depth_place file → place < record_count file → check file ≡ answer DEPTH place
+        module _ (e : file_shape file ≡ Ok tt) where
+          pub depth_refuses : (place : ℕ) → below (record_count file) (depth_place file) ≡ Some place → check file ≡ answer DEPTH place
           unfolding check judge
-          depth_refuses place f h = rw (a, le-ltb _ _ b, d, well (kinds file) e, ← f, lt-ltb _ _ h)
+          depth_refuses place f =
+              let (at, within) = some_below _ _ _ f in
+              rw (a, le-ltb _ _ (none_below _ _ b), d, well (kinds file) (sym shape_read ∙ e), at, lt-ltb _ _ within)
 
-          pub accepts : record_count file ≤ depth_place file → check file ≡ answer 0 0
+          pub accepts : below (record_count file) (depth_place file) ≡ None → check file ≡ answer 0 0
           unfolding check judge
-          accepts h = rw (a, le-ltb _ _ b, d, well (kinds file) e, le-ltb _ _ h)
-
--- the place that SHAPE answers is at most the number of records
-pub shape_within : (file : List ℕ) (place : ℕ) → shape_of (kinds file) ≡ Broken place → place ≤ record_count file
-shape_within file place e = rw (ill_at (kinds file) place e, length_kinds file) at (wrong_within initial (kinds file))
+          accepts f =
+              rw (a, le-ltb _ _ (none_below _ _ b), d, well (kinds file) (sym shape_read ∙ e), le-ltb _ _ (none_below _ _ f))

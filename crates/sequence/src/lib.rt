@@ -2,27 +2,58 @@
 // The crate `shape` reads the parts of the file, `nesting` counts what is open.
 #![tactic(auto)]
 
-ghost use Rattle.std.specs.Prelude.{◌≡◌};
-ghost use Rattle.rules.specs.Check.{wrong_length, field_place, station_count};
-ghost use Rattle.sequence.specs.Answer.{answer, as_answer, wrong_count};
+ghost use Rattle.std.specs.Prelude.{◌≡◌, Some, None, ◌≤◌, ltb, if◌then◌else◌};
+ghost use Rattle.rules.specs.Names.{max_records};
+ghost use Rattle.rules.specs.Records.{record_count};
+ghost use Rattle.rules.specs.Check.{wrong_length, field_place, station_count, check};
+ghost use Rattle.record.specs.Refusals.{number_of};
+ghost use Rattle.sequence.specs.Answer.{answer, as_answer, as_fault, told_answer, wrong_count};
 ghost use Rattle.sequence.specs.Promises.{CheckPromise};
 
-use record::Record;
-use shape::Shape;
+use record::{Record, Refusal};
+
+// What is wrong with a file: the refusal, and the place of a record.
+#[derive(Clone, Copy, Debug, PartialEq, Eq)]
+pub struct Fault {
+    pub refusal: Refusal,
+    pub place: u16,
+}
 
 // What checking answers: 0 or the number of the refusal, and the place of a record.
 #[repr(C)]
-#[derive(Clone, Copy)]
+#[derive(Clone, Copy, Debug, PartialEq, Eq)]
 pub struct Checked {
     pub number: u8,
     pub place: u16,
 }
 
-impl Checked {
-    fn new(number: u8, place: u16) -> Checked
-        ensures { as_answer result ≡ answer number place }
+impl Fault {
+    // At the place of one of a file's records, or past the last.
+    fn at(refusal: Refusal, place: usize) -> Fault
+        requires { place ≤ max_records }
+        ensures { as_fault result ≡ answer (number_of refusal) place }
     {
-        Checked { number, place }
+        Fault {
+            refusal,
+            place: place as u16,
+        }
+    }
+}
+
+impl From<Result<(), Fault>> for Checked {
+    ghost from_gives = { λ outcome checked. as_answer checked ≡ told_answer outcome };
+
+    fn from(outcome: Result<(), Fault>) -> Checked {
+        match outcome {
+            Ok(()) => Checked {
+                number: 0,
+                place: 0,
+            },
+            Err(fault) => Checked {
+                number: fault.refusal.number(),
+                place: fault.place,
+            },
+        }
     }
 }
 
@@ -30,71 +61,64 @@ impl Checked {
 pub fn check(file: &[u8]) -> Checked
     ensures { CheckPromise file.now result }
 {
+    Checked::from(accept(file))
+}
+
+// Whether a file is an accepted sequence; where it is not, what the first test that refuses finds.
+pub fn accept(file: &[u8]) -> Result<(), Fault>
+    ensures { told_answer result ≡ check file.now }
+{
     if wrong_length(file) {
-        return Checked::new(Record::LENGTH, 0);
+        return Err(Fault::at(Refusal::Length, 0));
     }
-    let count = file.len() / 8;
-    let field = field_place(file);
-    if field < count {
-        return Checked::new(Record::FIELD, field as u16);
+    if let Some(place) = field_place(file) {
+        return Err(Fault::at(Refusal::Field, place));
     }
     if wrong_count(file) {
-        return Checked::new(Record::COUNT, 0);
+        return Err(Fault::at(Refusal::Count, 0));
     }
-    if let Shape::Broken(place) = shape::of(file) {
-        return Checked::new(Record::SHAPE, place as u16);
+    if let Err(place) = shape::of(file) {
+        return Err(Fault::at(Refusal::Shape, place));
     }
-    let deep = nesting::depth_place(file);
-    if deep < count {
-        return Checked::new(Record::DEPTH, deep as u16);
+    if let Some(place) = nesting::depth_place(file) {
+        return Err(Fault::at(Refusal::Depth, place));
     }
-    Checked::new(0, 0)
+    Ok(())
 }
 
 // LENGTH: whether the bytes are not a multiple of 8, none, or more than the most records have.
+#[tactic(auto, unfolding(rules::specs::Check::wrong_length))]
 fn wrong_length(file: &[u8]) -> bool
     ensures { result ≡ wrong_length file.now }
 {
     let bytes = file.len();
-    if bytes > 8 * Record::MAX_RECORDS {
-        return true;
-    }
-    (bytes % 8 != 0) | (bytes == 0)
+    bytes % 8 != 0 || bytes == 0 || bytes > 8 * Record::MAX_RECORDS
 }
 
-// FIELD: the place of the first record outside the document's table; the number of records where there is none.
-fn field_place(file: &[u8]) -> usize
-    ensures { result ≡ field_place file.now }
+// FIELD: the place of the first record outside the document's table, where there is one.
+fn field_place(file: &[u8]) -> Option<usize>
+    ensures { result ≡ (if ltb (field_place file.now) (record_count file.now) then Some (field_place file.now) else None) }
 {
-    let mut at: usize = 0;
-    while at < file.len() / 8 {
-        if !table::fields_right(Record::at(file, at)) {
-            return at;
-        }
-        at += 1;
-    }
-    at
+    let (records, _) = file.as_chunks();
+    records
+        .iter()
+        .position(|bytes| !table::fields_right(Record::from(*bytes)))
 }
 
 // COUNT: whether the STATION records are none, or more than the most stations.
 fn wrong_count(file: &[u8]) -> bool
     ensures { result ≡ wrong_count file.now }
 {
-    let stations = station_count(file);
-    (stations < 1) | (stations > Record::MAX_STATIONS)
+    !(1..=Record::MAX_STATIONS).contains(&station_count(file))
 }
 
 // How many STATION records the file has, wherever they stand.
 pub fn station_count(file: &[u8]) -> usize
     ensures { result ≡ station_count file.now }
 {
-    let mut stations: usize = 0;
-    let mut at: usize = 0;
-    while at < file.len() / 8 {
-        if file[8 * at] == Record::STATION {
-            stations += 1;
-        }
-        at += 1;
-    }
-    stations
+    let (records, _) = file.as_chunks::<8>();
+    records
+        .iter()
+        .filter(|bytes| bytes[0] == Record::STATION)
+        .count()
 }

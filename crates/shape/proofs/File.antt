@@ -12,8 +12,7 @@ use Rattle.rules.specs.Records.{record_count}
 use Rattle.rules.specs.Shape.{Stand, initial, wrong, stride, is_wrong, walked, wrong_at, well_shaped}
 use Rattle.rules.specs.Check.{kinds}
 use Rattle.deep.specs.declared.Read.{Read}
-use Rattle.shape.specs.declared.Shape.{Shape}
-use Rattle.shape.specs.declared.Shape.TheVariants.{Whole, Broken}
+use Rattle.std.specs.Prelude.{Result, Ok, Err}
 use Rattle.parts.specs.Strides.{opened}
 use Rattle.deep.specs.Reading.{reading}
 use Rattle.shape.specs.File.{shape_of}
@@ -24,13 +23,13 @@ use Rattle.shape.proofs.Walk.{stand, judged, judged_wrong, judged_more, onward, 
 abbrev pub Initial : List ℕ → ℕ → Type 0
 Initial file at = shape_of (kinds file) ≡ onward at (judged initial (drop at (kinds file)))
 
-onward_none : (f : Shape) → f ≡ onward 0 f
-onward_none Whole = refl
-onward_none (Broken place) = ap Broken (omega arith)
+onward_none : (f : Result Unit ℕ) → f ≡ onward 0 f
+onward_none (Ok t) = refl
+onward_none (Err place) = ap Err (omega arith)
 
-onward_onward : (d e : ℕ) (f : Shape) → onward d (onward e f) ≡ onward (d + e) f
-onward_onward d e Whole = refl
-onward_onward d e (Broken place) = ap Broken (omega arith)
+onward_onward : (d e : ℕ) (f : Result Unit ℕ) → onward d (onward e f) ≡ onward (d + e) f
+onward_onward d e (Ok t) = refl
+onward_onward d e (Err place) = ap Err (omega arith)
 
 pub initial_start : (file : List ℕ) → Initial file 0
 unfolding well_shaped
@@ -38,11 +37,11 @@ initial_start file = onward_none (shape_of (kinds file))
 
 -- a file of no station is unfinished
 pub initial_end : (file : List ℕ) (at : ℕ) → Initial file at → at ≤ record_count file → record_count file ≤ at
-    → shape_of (kinds file) ≡ Broken (record_count file)
+    → shape_of (kinds file) ≡ Err (record_count file)
 unfolding walked wrong_at
 initial_end file at found below above =
     let e : length (kinds file) ≤ at = rw length_kinds above in
-    found ∙ rw (drop_of_length-le (kinds file) e) (ap Broken (omega arith))
+    found ∙ rw (drop_of_length-le (kinds file) e) (ap Err (omega arith))
 
 module _ (file : List ℕ) (at : ℕ) (h : at < record_count file) (found : Initial file at) where
   turn : (next : Stand) → stride initial (get_or file (8 * at) 0) ≡ next → is_wrong next ≡ false
@@ -57,13 +56,13 @@ module _ (file : List ℕ) (at : ℕ) (h : at < record_count file) (found : Init
   unfolding stride
   initial_on e = turn initial (rw e) refl
 
-  pub initial_off : (get_or file (8 * at) 0 ≡ STATION → ⊥) → (get_or file (8 * at) 0 ≡ SET → ⊥) → shape_of (kinds file) ≡ Broken at
+  pub initial_off : (get_or file (8 * at) 0 ≡ STATION → ⊥) → (get_or file (8 * at) 0 ≡ SET → ⊥) → shape_of (kinds file) ≡ Err at
   unfolding stride
   initial_off a b =
       let w : stride initial (get_or file (8 * at) 0) ≡ wrong = rw (ne_eqb _ _ b, ne_eqb _ _ a) in
       found
       ∙ ap (onward at) (ap (judged initial) (kinds_from file at h) ∙ judged_wrong initial (get_or file (8 * at) 0) (drop (at + 1) (kinds file)) w)
-      ∙ ap Broken (omega arith)
+      ∙ ap Err (omega arith)
 
   pub initial_station : get_or file (8 * at) 0 ≡ STATION → (r : Read) → r ≡ reading (opened STATION false) [] (kinds (from file (at + 1)))
       → (v : Read) → r ≡ v → shape_of (kinds file) ≡ onward (at + 1) (shaped v (record_count file - (at + 1)))

@@ -1,5 +1,5 @@
 -- Reading the parts of a file is the rules' walk over it: what reading finds decides the file's shape. Assumes nothing.
-use Rattle.std.specs.Prelude.{if◌then◌else◌}
+use Rattle.std.specs.Prelude.{Result, Ok, Err, if◌then◌else◌}
 use mathlib.Core.Path.{◌≡◌, refl, ap, ◌∙◌}
 use mathlib.Core.Bool.{true, false, ◌&&◌, not}
 use mathlib.Core.List.{List, [], ◌∷◌}
@@ -19,8 +19,6 @@ use Rattle.parts.specs.declared.Stride.TheVariants.{On, Into, Out, Off}
 use Rattle.laws.proofs.Shapes.{wrong_stays}
 use Rattle.deep.specs.declared.Read.{Read}
 use Rattle.deep.specs.declared.Read.TheVariants.{Closed, Wrong, Short}
-use Rattle.shape.specs.declared.Shape.{Shape}
-use Rattle.shape.specs.declared.Shape.TheVariants.{Whole, Broken}
 use Rattle.parts.specs.Strides.{grown, closed, stride_of}
 use Rattle.deep.specs.Reading.{shift, carried, reading}
 
@@ -58,15 +56,15 @@ strides part parts kind =
     (λ f. rw (a, b, d, e, f) (rw (eqb-true kind part.close (both_left _ _ f)) (closes part parts))) (λ f. rw (a, b, d, e, f))))))
 
 -- the shape that a walk from a stand finds
-abbrev pub judged : Stand → List ℕ → Shape
-judged at kinds = if finished (walked at kinds) then Whole else Broken (wrong_at at kinds)
+abbrev pub judged : Stand → List ℕ → Result Unit ℕ
+judged at kinds = if finished (walked at kinds) then Ok tt else Err (wrong_at at kinds)
 
 -- a place counted from so many records further back
-abbrev pub onward : ℕ → Shape → Shape
-onward d Whole = Whole
-onward d (Broken place) = Broken (d + place)
+abbrev pub onward : ℕ → Result Unit ℕ → Result Unit ℕ
+onward d (Ok t) = Ok t
+onward d (Err place) = Err (d + place)
 
-pub judged_wrong : (at : Stand) (kind : ℕ) (kinds : List ℕ) → stride at kind ≡ wrong → judged at (kind ∷ kinds) ≡ Broken 0
+pub judged_wrong : (at : Stand) (kind : ℕ) (kinds : List ℕ) → stride at kind ≡ wrong → judged at (kind ∷ kinds) ≡ Err 0
 unfolding walked wrong_at
 judged_wrong at kind kinds e = rw (e, wrong_stays kinds)
 
@@ -75,19 +73,19 @@ pub judged_more : (at next : Stand) (kind : ℕ) (kinds : List ℕ) → stride a
 unfolding walked wrong_at
 judged_more at next kind kinds e n =
     by_test (finished (walked next kinds)) (λ f. rw (e, n, f))
-    (λ f. rw (e, n, f) (ap Broken (omega arith)))
+    (λ f. rw (e, n, f) (ap Err (omega arith)))
 
 -- what reading finds, as the shape of a file whose records end there
-abbrev pub shaped : Read → ℕ → Shape
-shaped (Closed place) count = Broken place
-shaped (Wrong place) count = Broken place
-shaped (Short finished) count = if finished then Whole else Broken count
+abbrev pub shaped : Read → ℕ → Result Unit ℕ
+shaped (Closed place) count = Err place
+shaped (Wrong place) count = Err place
+shaped (Short finished) count = if finished then Ok tt else Err count
 
 shaped_shift : (r : Read) (count : ℕ) → onward 1 (shaped r count) ≡ shaped (shift 1 r) (suc count)
 shaped_shift (Closed place) count = refl
 shaped_shift (Wrong place) count = refl
 shaped_shift (Short true) count = refl
-shaped_shift (Short false) count = ap Broken (omega arith)
+shaped_shift (Short false) count = ap Err (omega arith)
 
 abbrev Walks : List ℕ → Type 0
 Walks kinds = (part : Part) (parts : List Part) → judged (stand part parts) kinds ≡ shaped (reading part parts kinds) (length kinds)

@@ -12,26 +12,63 @@ use deep::Read;
 use parts::{Part, Stride};
 use record::Record;
 
-// The shape of a file.
-#[derive(Clone, Copy)]
-pub enum Shape {
-    // It is well shaped.
-    Whole,
-    // It is not. The place is that of the first record after which nothing is well shaped, or the number of records where the file is
-    // unfinished.
-    Broken(usize),
+// The shape of a file: where it is not well shaped, the place of the first record after which nothing is, or the number of records where the
+// file is unfinished. A file of more than 1,024 records is not read, and counts as broken at its first.
+pub fn of(file: &[u8]) -> Result<(), usize>
+    ensures { result ≡ file_shape file.now }
+{
+    if 8 * Record::MAX_RECORDS < file.len() {
+        return Err(0);
+    }
+    read_file(file)
+}
+
+// The shape of a file of no more records: SET records, which are its initial part, and then its stations.
+fn read_file(file: &[u8]) -> Result<(), usize>
+    requires { length file.now ≤ 8 * max_records }
+    ensures { result ≡ shape_of (kinds file.now) }
+{
+    let count = file.len() / 8;
+    for at in 0..count {
+        match file[8 * at] {
+            Record::SET => {}
+            Record::STATION => {
+                let next = at + 1;
+                return match read_stations(&file[8 * next..]) {
+                    // Nothing is open around a station, so a record that closed it would be wrong.
+                    Read::Closed(place) | Read::Wrong(place) => Err(next + place),
+                    Read::Short(true) => Ok(()),
+                    Read::Short(false) => Err(count),
+                };
+            }
+            _ => return Err(at),
+        }
+    }
+    Err(count)
+}
+
+// What reading the records after the first STATION finds.
+fn read_stations(s: &[u8]) -> Read
+    requires { length s.now ≤ 8 * max_records }
+    ensures { result ≡ reading (opened STATION false) [] (kinds s.now) }
+{
+    read_part(
+        s,
+        Part::opened(Record::STATION, false),
+        Record::MAX_DEPTH + 1,
+    )
 }
 
 // What reading the records of a slice finds, the first of which stands in this part. A part that a record opens is read as a part of
-// its own, from the record after it, by a call for each part that is open, as deep as this.
-fn read_part(s: &[u8], part: Part, depth: usize) -> Read
+// its own, from the record after it, by a call for each part that is open, as deep as this. The place goes on past it in one leap, so that no
+// `for` counts the places.
+fn read_part(s: &[u8], mut part: Part, depth: usize) -> Read
     requires { length s.now ≤ 8 * max_records }
     ensures { result ≡ reading part [] (kinds s.now) }
 {
     if depth == 0 {
         return deep::reading(s, part);
     }
-    let mut part = part;
     let mut at: usize = 0;
     while at < s.len() / 8 {
         let next = at + 1;
@@ -45,74 +82,12 @@ fn read_part(s: &[u8], part: Part, depth: usize) -> Read
                     part = part.grown();
                     at = next + place + 1;
                 }
-                Read::Wrong(place) => {
-                    return Read::Wrong(next + place);
-                }
-                Read::Short(_) => {
-                    return Read::Short(false);
-                }
+                Read::Wrong(place) => return Read::Wrong(next + place),
+                Read::Short(_) => return Read::Short(false),
             },
-            Stride::Out => {
-                return Read::Closed(at);
-            }
-            Stride::Off => {
-                return Read::Wrong(at);
-            }
+            Stride::Out => return Read::Closed(at),
+            Stride::Off => return Read::Wrong(at),
         }
     }
     Read::Short(part.begun)
-}
-
-// The shape of a file. One of more than 1,024 records is not read, and counts as broken at its first.
-pub fn of(file: &[u8]) -> Shape
-    ensures { result ≡ file_shape file.now }
-{
-    if 8 * Record::MAX_RECORDS < file.len() {
-        return Shape::Broken(0);
-    }
-    read_file(file)
-}
-
-// The shape of a file of no more records: SET records, which are its initial part, and then its stations.
-fn read_file(file: &[u8]) -> Shape
-    requires { length file.now ≤ 8 * max_records }
-    ensures { result ≡ shape_of (kinds file.now) }
-{
-    let count = file.len() / 8;
-    let mut at: usize = 0;
-    while at < count {
-        let kind = file[8 * at];
-        if kind == Record::STATION {
-            let next = at + 1;
-            return match read_stations(&file[8 * next..]) {
-                // Nothing is open around a station, so a record that closed it would be wrong.
-                Read::Closed(place) => Shape::Broken(next + place),
-                Read::Wrong(place) => Shape::Broken(next + place),
-                Read::Short(finished) => {
-                    if finished {
-                        Shape::Whole
-                    } else {
-                        Shape::Broken(count)
-                    }
-                }
-            };
-        }
-        if kind != Record::SET {
-            return Shape::Broken(at);
-        }
-        at += 1;
-    }
-    Shape::Broken(count)
-}
-
-// What reading the records after the first STATION finds.
-fn read_stations(s: &[u8]) -> Read
-    requires { length s.now ≤ 8 * max_records }
-    ensures { result ≡ reading (opened STATION false) [] (kinds s.now) }
-{
-    read_part(
-        s,
-        Part::opened(Record::STATION, false),
-        Record::MAX_DEPTH + 1,
-    )
 }

@@ -29,10 +29,5 @@ pub fn all() -> [usize; 5]
 pub fn used(list: &[u8], count: u16) -> &[u8]
     ensures { result.now ≡ take (16 * count) list.now }
 {
-    let end = 16 * count as usize;
-    if end <= list.len() {
-        &list[..end]
-    } else {
-        list
-    }
+    list.get(..16 * count as usize).unwrap_or(list)
 }

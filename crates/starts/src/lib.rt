@@ -7,20 +7,13 @@ ghost use Rattle.rules.specs.Records.{pick_at};
 ghost use Rattle.rules.specs.Start.{start_records};
 ghost use Rattle.starts.specs.Room.{room};
 
-use record::Record;
+use record::{Pick, Record};
 
 // Whether each reset is at most b.
 pub fn resets_within(resets: &[u8], b: u8) -> bool
     ensures { result ≡ each (λ j. leb (get_or resets.now j 0) b) (length resets.now) }
 {
-    let mut j: usize = 0;
-    while j < resets.len() {
-        if b < resets[j] {
-            return false;
-        }
-        j += 1;
-    }
-    true
+    resets.iter().all(|reset| *reset <= b)
 }
 
 // Writes a start record for each reset, a station and its reset, to the front of the log, and answers whether there was room for them:
@@ -34,12 +27,10 @@ pub fn write(log: &mut [u8], resets: &[u8]) -> bool
     if log.len() < 2 * resets.len() {
         return false;
     }
-    let mut j: usize = 0;
-    while j < resets.len() {
+    for (j, reset) in resets.iter().enumerate() {
         let at = 2 * j;
         log[at] = j as u8;
-        log[at + 1] = resets[j];
-        j += 1;
+        log[at + 1] = *reset;
     }
     true
 }
@@ -48,19 +39,9 @@ pub fn write(log: &mut [u8], resets: &[u8]) -> bool
 pub fn right(log: &[u8], n: u8, b: u8) -> bool
     ensures { result ≡ (leb (2 * n) (length log.now) && each (λ j. eqb (pick_at log.now j).station j && leb (pick_at log.now j).reset b) n) }
 {
-    let n = n as usize;
-    if log.len() < 2 * n {
-        return false;
-    }
-    let mut j: usize = 0;
-    while j < n {
-        if log[2 * j] as usize != j {
-            return false;
-        }
-        if b < log[2 * j + 1] {
-            return false;
-        }
-        j += 1;
-    }
-    true
+    2 * n as usize <= log.len()
+        && (0..n).all(|j| {
+            let start = Pick::at(log, j as usize);
+            start.station == j && start.reset <= b
+        })
 }

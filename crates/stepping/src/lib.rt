@@ -1,45 +1,38 @@
-// One step of the parts of a state, its record in the log and the state that it keeps, past the tests of the list and of the state.
+// One step of a state, its record in the log and the state that it keeps, past the tests of the list and of the state.
 #![tactic(auto)]
 
 ghost use Rattle.std.specs.Prelude.{◌≡◌};
-ghost use Rattle.laws.specs.Parts.{of_parts, steps_after};
+ghost use Rattle.record.specs.Refusals.{told_number};
+ghost use Rattle.record.specs.View.{as_pick};
+ghost use Rattle.state.specs.View.{as_state};
 ghost use Rattle.stepping.specs.Logged.{logged};
 
-use record::Record;
+use record::{Pick, Record, Refusal};
+use state::State;
 
-// One step of the parts of a state, which are changed where they are, on any list and state: 0, a record more in the log and, at a multiple
-// of 64, the state after it in its kept place; or the refusal and nothing changed. On a list and a state that are sound it is STEP.
+// One step of a state, which is changed where it is, on any list and state: a record more in the log and, at a multiple of 64, the state after it
+// in its kept place; or the refusal and nothing changed. On a list and a state that are sound it is STEP.
 pub fn logged(
     list: &[u8],
-    vars: &mut [u32; 32],
-    positions: &mut [u16; 8],
-    priorities: &mut [i16; 8],
-    counts: &mut [u16; 8],
-    n: u8,
-    b: u8,
-    m: u16,
+    state: &mut State,
     log: &mut [u8],
     kept: &mut [u8],
-    station: u8,
-    reset: u8,
-) -> u8
-    ensures { record { number = result; state = of_parts vars.new positions.new priorities.new counts.new n b (steps_after result m); lent = record { log = log.new; kept = kept.new } } ≡ logged list.now (of_parts vars.old positions.old priorities.old counts.old n b m) (record { log = log.old; kept = kept.old }) (record { station = station; reset = reset }) }
+    pick: Pick,
+) -> Result<(), Refusal>
+    ensures { record { number = told_number result; state = as_state state.new; lent = record { log = log.new; kept = kept.new } } ≡ logged list.now (as_state state.old) (record { log = log.old; kept = kept.old }) (as_pick pick) }
 {
-    if Record::MAX_STEPS <= m {
-        return Record::FULL;
+    if Record::MAX_STEPS <= state.m {
+        return Err(Refusal::Full);
     }
-    if !logs::room(log, n, m) {
-        return Record::ROOM;
+    if !logs::room(log, state.n, state.m) {
+        return Err(Refusal::Room);
     }
     if kept.len() < Record::KEPT_LENGTH * Record::MAX_KEPT {
-        return Record::ROOM;
+        return Err(Refusal::Room);
     }
-    let number = picking::pick(
-        list, vars, positions, priorities, counts, n, b, station, reset,
-    );
-    if number == 0 {
-        logs::put(log, n, m, station, reset);
-        keeping::keep(kept, vars, positions, priorities, counts, n, b, m + 1);
-    }
-    number
+    picking::pick(list, state, pick)?;
+    logs::put(log, state.n, state.m, pick);
+    state.m += 1;
+    keeping::keep(kept, state);
+    Ok(())
 }

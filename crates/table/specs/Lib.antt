@@ -1,2 +1,2 @@
--- The numbers of the code's table, set beside the rules.
-pub mod Numbers
+-- The rules of the code's table, set beside the document's.
+pub mod View

@@ -1,5 +1,5 @@
 -- Numbers in decimal: the last digit apart from those before it, and how many digits there are at most. Assumes nothing.
-use mathlib.Core.Path.{◌≡◌}
+use mathlib.Core.Path.{◌≡◌, sym}
 use mathlib.Core.List.{[], ◌∷◌, ◌++◌}
 use Prim.Native.Nat.{ℕ, zero, suc, ◌+◌, ◌/◌, ◌%◌, ◌^◌, ◌≤◌, ◌<◌}
 use native.Mathlib.Nat.{div-lt_self, div-lt_iff_lt-mul, pow-suc, zero-lt-suc}
@@ -8,6 +8,8 @@ use lib.Dec.{ltb, lit<}
 use lib.ListN.{length, length-append}
 use Rattle.laws.proofs.Choice.{by_test}
 use borrow.Author.Tests.{ltb-true, ltb-false, lt-ltb, le-ltb}
+use Rattle.std.proofs.lemmas.Fmt.{decimal_by_steps}
+use Rattle.std.specs.Fmt.{decimal as printed_decimal}
 use Rattle.rules.specs.Trace.{decimal_digits, decimal}
 
 -- one digit
@@ -35,6 +37,11 @@ pub decimal_more : (x : ℕ) → 10 ≤ x → decimal x ≡ decimal (x / 10) ++ 
 decimal_more x large =
     let less : x / 10 < x = div-lt_self (omega arith) (lit< tt) in
     rw (digits_more x x large, digits_enough x (suc (x / 10)) (x / 10) less (omega arith))
+
+-- what `{}` prints of a number is its digits
+pub printed : (x : ℕ) → x < 2 ^ 64 → printed_decimal x ≡ decimal x
+printed = decimal_by_steps (λ x ds. ds ≡ decimal x) (λ x small. sym (digits_one x x small))
+    (λ x ds large front. rw (front, decimal_more x large))
 
 -- below 10 ^ k there are at most k digits
 pub length_decimal : (k x : ℕ) → x < 10 ^ suc k → length (decimal x) ≤ suc k

@@ -2,15 +2,15 @@
 #![tactic(auto)]
 
 ghost use Rattle.std.specs.Prelude.{◌≡◌, [], ◌∷◌, ◌++◌, take};
-ghost use Rattle.rules.specs.Trace.{decimal as decimal_of, signed as signed_of, end_line as end_line};
+ghost use Rattle.rules.specs.Trace.{decimal as decimal_of, signed as signed_of, end_line};
 ghost use Rattle.text.specs.View.{max_line, text_of};
 
 // Bytes of a text, at most: those of the longest line, a state's, with every number as long as it can be: m of five digits, two masks of three,
 // eight priorities of six and eight counts of five, a space before each but the first, and the end of the line.
 const MAX_LINE: usize = 118;
 
-// A text: the first `len` of the bytes.
-#[derive(Clone, Copy)]
+// A text: the first `len` of the bytes. There is no heap here, so it is no String.
+#[derive(Clone, Copy, Debug)]
 pub struct Text {
     pub bytes: [u8; MAX_LINE],
     pub len: u8,
@@ -25,6 +25,13 @@ impl Text {
             bytes: [0u8; MAX_LINE],
             len: 0,
         }
+    }
+
+    // The bytes of the text.
+    pub fn as_bytes(&self) -> &[u8]
+        ensures { result.now ≡ text_of self.now }
+    {
+        self.bytes.get(..self.len as usize).unwrap_or(&self.bytes)
     }
 
     // The text with one byte more, where there is room for it.
@@ -44,10 +51,8 @@ impl Text {
         ensures { text_of result ≡ take max_line (text_of self ++ bytes.now) }
     {
         let mut text = self;
-        let mut i: usize = 0;
-        while i < bytes.len() {
-            text = text.put(bytes[i]);
-            i += 1;
+        for byte in bytes {
+            text = text.put(*byte);
         }
         text
     }
@@ -56,22 +61,14 @@ impl Text {
     pub fn decimal(self, x: u32) -> Text
         ensures { text_of result ≡ take max_line (text_of self ++ decimal_of x) }
     {
-        if x < 10 {
-            return self.put(48 + x as u8);
-        }
-        let front = self.decimal(x / 10);
-        front.put(48 + (x % 10) as u8)
+        self.words(itoa::Buffer::new().format(x).as_bytes())
     }
 
     // The text with a priority in decimal after it, below 0 with a minus sign, as far as there is room.
     pub fn signed(self, p: i16) -> Text
         ensures { text_of result ≡ take max_line (text_of self ++ signed_of p) }
     {
-        if p < 0 {
-            let below = 0 - p as i32;
-            return self.put(b'-').decimal(below as u32);
-        }
-        self.decimal(p as u32)
+        self.words(itoa::Buffer::new().format(p).as_bytes())
     }
 }
 

@@ -7,7 +7,8 @@ use native.Mathlib.Numerals.{add-one}
 use native.Mathlib.Omega.{arith}
 use borrow.Author.Tests.{leb-true, eqb-true, eqb-false}
 use lib.Dec.{eqb, leb}
-use lib.ListN.{length, get_or, set}
+use lib.ListN.{length, get_or, set, take, replicate, get_or-replicate}
+use Rattle.std.proofs.lemmas.List.{get_or-take, length-take-le, length-replicate}
 use lib.Seq.{get_or-set_same, get_or-set_other}
 use Rattle.rules.specs.Words.{among}
 use Rattle.rules.specs.Names.{max_list}
@@ -49,7 +50,7 @@ led_none list (suc n) place wanted none =
 -- what holds at each place of the pass: the marks are those of some wanted places, all below the end; and what is touched so far, with
 -- what the records from here on add, is what the whole body adds to what was touched before
 pub record Walk (list : List ℕ) (before : Touched) (t1 : ℕ) (touched : Touched) (marks : List Bool) (end place : ℕ) : Type 0 where
-  pub long : length marks ≡ max_list
+  pub long : length marks ≡ searched list
   pub wanted : List ℕ
   pub marked : (q : ℕ) → q < searched list → get_or marks q false ≡ among q wanted
   pub past : (q : ℕ) → end ≤ q → q < searched list → get_or marks q false ≡ false
@@ -59,16 +60,23 @@ pub record Walk (list : List ℕ) (before : Touched) (t1 : ℕ) (touched : Touch
 
 module _ (list : List ℕ) (before : Touched) (t1 : ℕ) where
   -- at the start only t1 is wanted
-  pub begins : {marks after : List Bool} {end : ℕ} → ((q : ℕ) → q < searched list → get_or marks q false ≡ false)
-      → length marks ≡ max_list → Wants (searched list) t1 0 marks end after → Walk list before t1 before after end t1
+  pub begins : {count end : ℕ} {after : List Bool} → count ≡ searched list
+      → Wants (length (take count (replicate max_list false))) t1 0 (take count (replicate max_list false)) end after
+      → Walk list before t1 before after end t1
   unfolding body_within
-  begins none long w =
+  begins {count} is w =
+      let marks = take count (replicate max_list false) in
+      let long : length marks ≡ searched list =
+      length-take-le count (replicate max_list false) (rw (is, length-replicate) (searched_most list)) ∙ is in
+      let none : (q : ℕ) → q < searched list → get_or marks q false ≡ false =
+      λ q l. get_or-take count (replicate max_list false) q false (omega arith) ∙ get_or-replicate max_list q false false (omega (arith, searched_most list)) in
+      let first = rw long at w in
       record {
-        long = w.long ∙ long;
+        long = first.long ∙ long;
         wanted = t1 ∷ [];
-        marked = λ q l. w.marks q l ∙ rw (none q l);
-        past = past_end w (λ q from to. none q to);
-        within = w.within;
+        marked = λ q l. first.marks q l ∙ rw (none q l);
+        past = past_end first (λ q from to. none q to);
+        within = first.within;
         left = refl;
       }
 
@@ -98,16 +106,16 @@ module _ (list : List ℕ) (before : Touched) (t1 : ℕ) where
         }
 
     -- one that is wanted is taken, and its targets are wanted
-    pub takes : {e : ListRecord} {count : ℕ} {touched' : Touched} {marks₁ marks₂ : List Bool} {end₁ end₂ : ℕ}
-        → place < end → get_or marks place false ≡ true → count ≡ searched list → e ≡ list_record_at list place
+    pub takes : {e : ListRecord} {touched' : Touched} {marks₁ marks₂ : List Bool} {end₁ end₂ : ℕ}
+        → place < end → get_or marks place false ≡ true → e ≡ list_record_at list place
         → touched' ≡ with_record touched e.own
-        → Wants count e.t1 end marks end₁ marks₁ → Wants count e.t2 end₁ marks₁ end₂ marks₂
+        → Wants (length marks) e.t1 end marks end₁ marks₁ → Wants (length marks₁) e.t2 end₁ marks₁ end₂ marks₂
         → Walk list before t1 touched' marks₂ end₂ (place + 1)
     unfolding led_to with_places
-    takes {e} inside mark counted here more one two =
+    takes {e} inside mark here more one two =
         let within = walk.within in
-        let first = rw counted at one in
-        let second = rw counted at two in
+        let first = rw walk.long at one in
+        let second = rw (first.long ∙ walk.long) at two in
         let left : searched list - place ≡ suc (searched list - (place + 1)) = omega arith in
         let want = sym (walk.marked place (omega arith)) ∙ mark in
         record {

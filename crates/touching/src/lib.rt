@@ -14,11 +14,9 @@ pub fn added(before: [bool; 32], test: bool, v: u32) -> [bool; 32]
     ensures { result ≡ added before (λ i. test && eqb v i) }
 {
     let mut after = before;
-    if test {
-        let place = v as usize;
-        if place < Record::VARIABLES {
-            after[place] = true;
-        }
+    let place = v as usize;
+    if test && place < after.len() {
+        after[place] = true;
     }
     after
 }
@@ -27,27 +25,25 @@ pub fn added(before: [bool; 32], test: bool, v: u32) -> [bool; 32]
 pub fn reads_b(own: Record) -> bool
     ensures { result ≡ reads_b (as_record own) }
 {
-    let op = own.op;
-    if own.kind == Record::SET {
-        return (op == 1) | (op == 2) | (op == 3) | (op == 4) | (op == 5);
+    match own.kind {
+        Record::SET => matches!(own.op, 1..=5),
+        kind => tests(kind),
     }
-    tests(own.kind)
 }
 
 // Whether a record reads the variable k.
 pub fn reads_k(own: Record) -> bool
     ensures { result ≡ reads_k (as_record own) }
 {
-    let op = own.op;
-    if own.kind == Record::SET {
-        return (op == 4) | (op == 5);
+    match own.kind {
+        Record::SET => matches!(own.op, 4 | 5),
+        kind => tests(kind) && 4 <= own.op,
     }
-    tests(own.kind) & (4 <= op)
 }
 
 // Whether a record of this kind has a condition.
 fn tests(kind: u8) -> bool
     ensures { result ≡ among kind (IF ∷ WHILE ∷ AWAIT ∷ []) }
 {
-    (kind == Record::IF) | (kind == Record::WHILE) | (kind == Record::AWAIT)
+    matches!(kind, Record::IF | Record::WHILE | Record::AWAIT)
 }

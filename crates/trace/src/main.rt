@@ -2,36 +2,33 @@
 // taken, and the last line. `tracing` says what is printed and in which order; here it is only read and written.
 #![tactic(auto)]
 
+use std::io;
 use tracing::Tracer;
 
-// Prints a trace piece by piece, until all is printed or nothing more can be written.
+// Prints a trace piece by piece, until all is printed.
 fn print_all(
     rt: &impl Print,
-    first: Tracer,
+    mut tracer: Tracer,
     list: &[u8],
     log: &mut [u8],
     kept: &mut [u8],
     picks: &[u8],
-) {
-    let mut tracer = first;
+) -> io::Result<()> {
     while !tracer.done() {
         let printed = tracer.next(list, log, kept, picks);
-        let text = printed.text;
-        if !files::print(rt, text) {
-            return;
-        }
-        let after = printed.tracer;
-        tracer = after;
+        files::print(rt, printed.text)?;
+        tracer = printed.tracer;
     }
+    Ok(())
 }
 
 // Prints the trace of three files.
-fn trace(rt: &impl Print, program: &[u8], starts: &[u8], picks: &[u8]) {
+fn trace(rt: &impl Print, program: &[u8], starts: &[u8], picks: &[u8]) -> io::Result<()> {
     let mut list = [0u8; sizes::LIST_BYTES];
     let mut log = [0u8; sizes::LOG_BYTES];
     let mut kept = [0u8; sizes::KEPT_BYTES];
     let first = tracing::open(program, starts, &mut list, &mut log, &kept);
-    print_all(rt, first, &list, &mut log, &mut kept, picks);
+    print_all(rt, first, &list, &mut log, &mut kept, picks)
 }
 
 fn main(rt: HostRuntime) {
@@ -41,7 +38,8 @@ fn main(rt: HostRuntime) {
     let program_count = files::read(&rt, b"program.rec", &mut program);
     let starts_count = files::read(&rt, b"start.rec", &mut starts);
     let picks_count = files::read(&rt, b"picks.rec", &mut picks);
-    trace(
+    // Where nothing more can be written, the output has no last line, which says so; there is no status for it.
+    let _ = trace(
         &rt,
         &program[..program_count],
         &starts[..starts_count],

@@ -1,6 +1,6 @@
 -- The code's tracers, seen as the rules' states and as the bytes that they print. These are definitions.
 use Rattle.std.specs.Prelude.{ℕ, List}
-use Rattle.run.specs.View.{as_state}
+use Rattle.state.specs.View.{as_state}
 use Rattle.text.specs.View.{text_of}
 use Rattle.tracing.specs.Tracing.{Tracing, Piece, Opened}
 use Rattle.tracing.specs.declared.Tracer.{Tracer}

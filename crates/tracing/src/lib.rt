@@ -1,7 +1,7 @@
 // What the trace prints: the tracer, which says which text comes next.
 #![tactic(auto)]
 
-use run::State;
+use state::State;
 use text::Text;
 
 mod opening;
@@ -10,8 +10,8 @@ mod order;
 pub use opening::open;
 
 // What a tracer does next: it prints the start's line, takes the pick at a record of the picks, prints the last line with a number, or
-// nothing, since all is printed.
-#[derive(Clone, Copy)]
+// nothing, since all is printed. The number is a C struct's answer, Built's or Outcome's, and so no Refusal.
+#[derive(Clone, Copy, Debug, PartialEq, Eq)]
 pub enum Next {
     Start,
     Pick(usize),
@@ -20,7 +20,7 @@ pub enum Next {
 }
 
 // Where a trace stands: the state reached, the count of list records, and what comes next.
-#[derive(Clone, Copy)]
+#[derive(Clone, Copy, Debug, PartialEq, Eq)]
 pub struct Tracer {
     pub state: State,
     pub count: u16,

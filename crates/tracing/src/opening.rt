@@ -4,8 +4,8 @@ ghost use Rattle.tracing.specs.Tracing.{ending, opened};
 ghost use Rattle.tracing.specs.View.{as_tracing, as_opened};
 
 use crate::{Next, Tracer};
-use record::Record;
-use run::State;
+use record::Refusal;
+use state::State;
 
 // The trace of a program and a start file, whose first byte is B: the list is built into one buffer, and the start records go to the log. The
 // kept states' buffer is only asked for its room. A refusal, the program's first, comes next as the last line.
@@ -16,22 +16,15 @@ pub fn open(program: &[u8], starts: &[u8], list: &mut [u8], log: &mut [u8], kept
     if built.number != 0 {
         return ending(built.number);
     }
-    if starts.len() == 0 {
-        return ending(Record::RESET);
-    }
-    let started = run::start(
-        sizes::used(list, built.count),
-        starts[0],
-        &starts[1..],
-        log,
-        kept,
-    );
+    let [b, resets @ ..] = starts else {
+        return ending(Refusal::Reset.number());
+    };
+    let started = run::start(sizes::used(list, built.count), *b, resets, log, kept);
     if started.number != 0 {
         return ending(started.number);
     }
-    let state = started.state;
     Tracer {
-        state,
+        state: started.state,
         count: built.count,
         next: Next::Start,
     }

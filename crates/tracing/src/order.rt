@@ -6,7 +6,7 @@ ghost use Rattle.tracing.specs.Tracing.{piece, pick_piece, all_printed};
 ghost use Rattle.tracing.specs.View.{as_tracing, as_piece};
 
 use crate::{Next, Printed, Tracer};
-use record::Record;
+use record::{Pick, Refusal};
 use text::{Text, end_line};
 
 // What comes after the start's line: the picks, or the last line where the picks file is wrong.
@@ -14,7 +14,7 @@ fn after_start(picks: &[u8]) -> Next
     ensures { result ≡ (if wrong_picks picks.now then Next.End LENGTH else Next.Pick 0) }
 {
     if picks::wrong(picks) {
-        return Next::End(Record::LENGTH);
+        return Next::End(Refusal::Length.number());
     }
     Next::Pick(0)
 }
@@ -24,13 +24,7 @@ impl Tracer {
     pub fn done(self) -> bool
         ensures { result ≡ all_printed (as_tracing self) }
     {
-        let next = self.next;
-        match next {
-            Next::Start => false,
-            Next::Pick(_) => false,
-            Next::End(_) => false,
-            Next::Nothing => true,
-        }
+        matches!(self.next, Next::Nothing)
     }
 
     // The next piece of the trace. A step taken writes its record to the log, and keeps the state that it reaches where it has a kept place.
@@ -38,10 +32,8 @@ impl Tracer {
         ensures { as_piece result (record { log = log.new; kept = kept.new }) ≡ piece list.now picks.now (record { log = log.old; kept = kept.old }) (as_tracing self) }
     {
         let own = sizes::used(list, self.count);
-        let state = self.state;
-        let next = self.next;
-        match next {
-            Next::Start => self.print_then(line::of(state, own), after_start(picks)),
+        match self.next {
+            Next::Start => self.print_then(line::of(self.state, own), after_start(picks)),
             Next::Pick(i) => self.pick(own, log, kept, picks, i),
             Next::End(number) => self.print_then(end_line(number), Next::Nothing),
             Next::Nothing => self.print_then(Text::empty(), Next::Nothing),
@@ -52,14 +44,9 @@ impl Tracer {
     fn print_then(self, text: Text, next: Next) -> Printed
         ensures { result ≡ record { text = text; tracer = record { state = self.state; count = self.count; next = next } } }
     {
-        let state = self.state;
         Printed {
             text,
-            tracer: Tracer {
-                state,
-                count: self.count,
-                next,
-            },
+            tracer: Tracer { next, ..self },
         }
     }
 
@@ -70,19 +57,14 @@ impl Tracer {
         if picks.len() / 2 <= i {
             return self.print_then(end_line(0), Next::Nothing);
         }
-        let at = 2 * i;
-        let after = i + 1;
-        let given = self.state;
-        let taken = picks::taken(given, list, log, kept, picks[at], picks[at + 1]);
-        let state = taken.state;
+        let taken = picks::taken(self.state, list, log, kept, Pick::at(picks, i));
         let tracer = Tracer {
-            state,
-            count: self.count,
-            next: Next::Nothing,
+            state: taken.state,
+            ..self
         };
         if taken.number != 0 {
             return tracer.print_then(end_line(taken.number), Next::Nothing);
         }
-        tracer.print_then(line::of(state, list), Next::Pick(after))
+        tracer.print_then(line::of(taken.state, list), Next::Pick(i + 1))
     }
 }

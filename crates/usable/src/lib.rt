@@ -1,27 +1,36 @@
-// Whether the state in a kept place may be gone on from, over any list and any part of a buffer that begins at the place.
+// The state in a kept place, where it may be gone on from, over any list and any part of a buffer that begins at the place.
 #![tactic(auto)]
 
-ghost use Rattle.std.specs.Prelude.{◌≡◌};
+ghost use Rattle.std.specs.Prelude.{◌≡◌, Some, None, option_map, if◌then◌else◌};
+ghost use Rattle.state.specs.View.{as_state};
+ghost use Rattle.recalling.specs.Recalled.{recalled};
 ghost use Rattle.usable.specs.Usable.{usable};
 
 use record::Record;
+use state::State;
 
-// Whether the part begins with a kept state that is sound against the list, has as many steps as its place says and has b for its largest
-// reset. A part that is cut off has none.
+// The state that the part begins with, where it is sound against the list, has as many steps as its place says and has b for its largest
+// reset. In a part that is cut off there is none.
+pub fn state(list: &[u8], part: &[u8], b: u8, place: u16) -> Option<State>
+    ensures { option_map as_state result ≡ (if usable list.now part.now b place then Some (recalled part.now) else None) }
+{
+    if !recalling::zeros(part) {
+        return None;
+    }
+    let state = recalling::state(part);
+    if whole::sound(list, &state)
+        && state.m as usize == Record::KEPT_EVERY as usize * place as usize
+        && state.b == b
+    {
+        Some(state)
+    } else {
+        None
+    }
+}
+
+// Whether there is one.
 pub fn right(list: &[u8], part: &[u8], b: u8, place: u16) -> bool
     ensures { result ≡ usable list.now part.now b place }
 {
-    if !recalling::zeros(part) {
-        return false;
-    }
-    let positions = recalling::positions(part);
-    let priorities = recalling::priorities(part);
-    let counts = recalling::counts(part);
-    let n = recalling::n(part);
-    let own = recalling::b(part);
-    let m = recalling::m(part);
-    if !whole::parts_sound(list, &positions, &priorities, &counts, n, own, m) {
-        return false;
-    }
-    (m as usize == Record::KEPT_EVERY as usize * place as usize) & (own == b)
+    state(list, part, b, place).is_some()
 }

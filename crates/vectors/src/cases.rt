@@ -1,60 +1,85 @@
 // The cases of the calls: each reads the call's fields in their order, into buffers that no field is too long for, makes the call by
 // the name that C has for it, and writes its line. The length of a field that is always as long, as b, a pick and the most-steps number
 // are, is read over. What a line cannot hold, a state and a lent buffer afterwards, it has as H.
-use crate::fields::{buffer, byte, field, half, long};
-use crate::hash::{NONE, after, hash};
+use crate::fields::{buffer, field, fixed};
+use crate::hash::hash;
 use crate::kept::kept_field;
 use crate::lines::line;
 use crate::states::{hash_state, state};
 use run::Outcome;
+use std::io;
 use std::io::Read;
 
 // The calls by their numbers in the stream and in the lines.
-const CHECK: u8 = 1;
+#[derive(Clone, Copy, Debug, PartialEq, Eq)]
+enum Call {
+    Check = 1,
+    Build = 2,
+    Start = 3,
+    Step = 4,
+    Run = 5,
+    Undo = 6,
+    Lights = 7,
+    Readiness = 9,
+    Why = 10,
+}
 
-const BUILD: u8 = 2;
+// The number of a case that is none of them.
+#[derive(Clone, Copy, Debug, PartialEq, Eq)]
+struct NoCall(u8);
 
-const START: u8 = 3;
+impl TryFrom<u8> for Call {
+    type Error = NoCall;
 
-const STEP: u8 = 4;
-
-const RUN: u8 = 5;
-
-const UNDO: u8 = 6;
-
-const LIGHTS: u8 = 7;
-
-const READINESS: u8 = 9;
-
-const WHY: u8 = 10;
-
-// Reads the fields of a call by its number and writes its line. It answers whether to go on: not at a number that none of them has, or where
-// the line cannot be written.
-pub fn answer(rt: &impl Print, file: &mut impl Read, call: u8) -> bool {
-    match call {
-        CHECK => check(rt, file),
-        BUILD => build(rt, file),
-        START => start(rt, file),
-        STEP => step(rt, file),
-        RUN => run(rt, file),
-        UNDO => undo(rt, file),
-        LIGHTS => lights(rt, file),
-        READINESS => readiness(rt, file),
-        WHY => why(rt, file),
-        _ => false,
+    fn try_from(number: u8) -> Result<Call, NoCall> {
+        match number {
+            1 => Ok(Call::Check),
+            2 => Ok(Call::Build),
+            3 => Ok(Call::Start),
+            4 => Ok(Call::Step),
+            5 => Ok(Call::Run),
+            6 => Ok(Call::Undo),
+            7 => Ok(Call::Lights),
+            9 => Ok(Call::Readiness),
+            10 => Ok(Call::Why),
+            _ => Err(NoCall(number)),
+        }
     }
 }
 
+// Reads the fields of a call by its number and writes its line. It answers whether to go on: not at a number that none of them has.
+pub fn answer(rt: &impl Print, file: &mut impl Read, call: u8) -> io::Result<bool> {
+    let Ok(call) = Call::try_from(call) else {
+        return Ok(false);
+    };
+    match call {
+        Call::Check => check(rt, file)?,
+        Call::Build => build(rt, file)?,
+        Call::Start => start(rt, file)?,
+        Call::Step => step(rt, file)?,
+        Call::Run => run(rt, file)?,
+        Call::Undo => undo(rt, file)?,
+        Call::Lights => lights(rt, file)?,
+        Call::Readiness => readiness(rt, file)?,
+        Call::Why => why(rt, file)?,
+    }
+    Ok(true)
+}
+
 // A case of check: a program. Its line: the number and the place.
-fn check(rt: &impl Print, file: &mut impl Read) -> bool {
+fn check(rt: &impl Print, file: &mut impl Read) -> io::Result<()> {
     let mut program = buffer();
     let program = field(file, &mut program);
     let checked = panel::press_check(program);
-    line(rt, CHECK, &[checked.number as u64, checked.place as u64])
+    line(
+        rt,
+        Call::Check as u8,
+        &[checked.number as u64, checked.place as u64],
+    )
 }
 
 // A case of build: a program and a buffer. Its line: the number, the place, the count and the buffer.
-fn build(rt: &impl Print, file: &mut impl Read) -> bool {
+fn build(rt: &impl Print, file: &mut impl Read) -> io::Result<()> {
     let mut program = buffer();
     let mut list = buffer();
     let program = field(file, &mut program);
@@ -62,7 +87,7 @@ fn build(rt: &impl Print, file: &mut impl Read) -> bool {
     let built = panel::press_build(program, list);
     line(
         rt,
-        BUILD,
+        Call::Build as u8,
         &[
             built.number as u64,
             built.place as u64,
@@ -73,23 +98,22 @@ fn build(rt: &impl Print, file: &mut impl Read) -> bool {
 }
 
 // A case of start: a list, b, the resets, a log and the kept states. Its line: that of an outcome.
-fn start(rt: &impl Print, file: &mut impl Read) -> bool {
+fn start(rt: &impl Print, file: &mut impl Read) -> io::Result<()> {
     let mut list = buffer();
     let mut resets = buffer();
     let mut log = buffer();
     let list = field(file, &mut list);
-    half(file);
-    let b = byte(file);
+    let [b] = fixed::<1>(file);
     let resets = field(file, &mut resets);
     let log = field(file, &mut log);
     let mut kept = buffer();
     let kept = kept_field(file, &mut kept);
     let started = panel::press_start(list, b, resets, log, kept);
-    outcome(rt, START, started, log, kept)
+    outcome(rt, Call::Start, started, log, kept)
 }
 
 // A case of step: a list, a state, a log, the kept states and a pick. Its line: that of an outcome.
-fn step(rt: &impl Print, file: &mut impl Read) -> bool {
+fn step(rt: &impl Print, file: &mut impl Read) -> io::Result<()> {
     let mut list = buffer();
     let mut log = buffer();
     let list = field(file, &mut list);
@@ -97,16 +121,14 @@ fn step(rt: &impl Print, file: &mut impl Read) -> bool {
     let log = field(file, &mut log);
     let mut kept = buffer();
     let kept = kept_field(file, &mut kept);
-    half(file);
-    let station = byte(file);
-    let reset = byte(file);
+    let [station, reset] = fixed::<2>(file);
     let stepped = panel::press_step(given, list, log, kept, station, reset);
-    outcome(rt, STEP, stepped, log, kept)
+    outcome(rt, Call::Step, stepped, log, kept)
 }
 
 // A case of run: a list, a state, a log, the kept states, the picks and the most-steps number. Its line: the number, the steps taken, the state
 // and the two buffers.
-fn run(rt: &impl Print, file: &mut impl Read) -> bool {
+fn run(rt: &impl Print, file: &mut impl Read) -> io::Result<()> {
     let mut list = buffer();
     let mut log = buffer();
     let mut picks = buffer();
@@ -116,17 +138,15 @@ fn run(rt: &impl Print, file: &mut impl Read) -> bool {
     let mut kept = buffer();
     let kept = kept_field(file, &mut kept);
     let picks = field(file, &mut picks);
-    half(file);
-    let most = long(file);
+    let most = u64::from_le_bytes(fixed(file));
     let ran = panel::press_run(given, list, log, kept, picks, most as usize);
-    let reached = ran.state;
     line(
         rt,
-        RUN,
+        Call::Run as u8,
         &[
             ran.number as u64,
             ran.steps as u64,
-            hash_state(reached),
+            hash_state(&ran.state),
             hash(log),
             hash(kept),
         ],
@@ -134,7 +154,7 @@ fn run(rt: &impl Print, file: &mut impl Read) -> bool {
 }
 
 // A case of undo: a list, a state, a log and the kept states. Its line: the number and the state.
-fn undo(rt: &impl Print, file: &mut impl Read) -> bool {
+fn undo(rt: &impl Print, file: &mut impl Read) -> io::Result<()> {
     let mut list = buffer();
     let mut log = buffer();
     let list = field(file, &mut list);
@@ -143,56 +163,60 @@ fn undo(rt: &impl Print, file: &mut impl Read) -> bool {
     let mut kept = buffer();
     let kept = kept_field(file, &mut kept);
     let undone = panel::press_undo(given, list, log, kept);
-    let reached = undone.state;
-    line(rt, UNDO, &[undone.number as u64, hash_state(reached)])
+    line(
+        rt,
+        Call::Undo as u8,
+        &[undone.number as u64, hash_state(&undone.state)],
+    )
 }
 
 // A case of lights: a list and a state. Its line: the number, the four masks, and the two rows together.
-fn lights(rt: &impl Print, file: &mut impl Read) -> bool {
+fn lights(rt: &impl Print, file: &mut impl Read) -> io::Result<()> {
     let mut list = buffer();
     let list = field(file, &mut list);
     let given = state(file);
     let lit = panel::press_lights(given, list);
-    let rows = lit.rows();
     line(
         rt,
-        LIGHTS,
+        Call::Lights as u8,
         &[
             lit.number as u64,
             lit.ready as u64,
             lit.in_turn as u64,
             lit.waiting as u64,
             lit.ended as u64,
-            hash_rows(rows[0], rows[1]),
+            hash(lit.rows().as_flattened()),
         ],
     )
 }
 
 // A case of readiness: a list, a state and a station. Its line: the number and the place.
-fn readiness(rt: &impl Print, file: &mut impl Read) -> bool {
+fn readiness(rt: &impl Print, file: &mut impl Read) -> io::Result<()> {
     let mut list = buffer();
     let list = field(file, &mut list);
     let given = state(file);
-    half(file);
-    let station = byte(file);
+    let [station] = fixed::<1>(file);
     let told = panel::press_readiness(given, list, station);
-    line(rt, READINESS, &[told.number as u64, told.place as u64])
+    line(
+        rt,
+        Call::Readiness as u8,
+        &[told.number as u64, told.place as u64],
+    )
 }
 
 // A case of why: a list, a state and a station. Its line: the number, the place, the station ahead, how many variables are named, and the two
 // variables and their values.
-fn why(rt: &impl Print, file: &mut impl Read) -> bool {
+fn why(rt: &impl Print, file: &mut impl Read) -> io::Result<()> {
     let mut list = buffer();
     let list = field(file, &mut list);
     let given = state(file);
-    half(file);
-    let station = byte(file);
+    let [station] = fixed::<1>(file);
     let why = panel::press_why(given, list, station);
     let first = why.seen(0);
     let second = why.seen(1);
     line(
         rt,
-        WHY,
+        Call::Why as u8,
         &[
             why.number as u64,
             why.place as u64,
@@ -207,21 +231,21 @@ fn why(rt: &impl Print, file: &mut impl Read) -> bool {
 }
 
 // The line of a start and of a step: the number, the state and the two buffers.
-fn outcome(rt: &impl Print, call: u8, outcome: Outcome, log: &[u8], kept: &[u8]) -> bool {
-    let state = outcome.state;
+fn outcome(
+    rt: &impl Print,
+    call: Call,
+    outcome: Outcome,
+    log: &[u8],
+    kept: &[u8],
+) -> io::Result<()> {
     line(
         rt,
-        call,
+        call as u8,
         &[
             outcome.number as u64,
-            hash_state(state),
+            hash_state(&outcome.state),
             hash(log),
             hash(kept),
         ],
     )
-}
-
-// H of the two rows of the lights together.
-fn hash_rows(reads: [u8; 32], writes: [u8; 32]) -> u64 {
-    after(after(NONE, &reads), &writes) as u64
 }

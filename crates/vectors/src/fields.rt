@@ -3,7 +3,7 @@
 use std::io::Read;
 
 // Bytes of a field, at most: what a length of two bytes can say.
-pub const MAX_FIELD: usize = 65535;
+pub const MAX_FIELD: usize = u16::MAX as usize;
 
 // A buffer for a field. It is a function, since a literal of so many bytes costs the check more wherever one is lent.
 pub(crate) fn buffer() -> [u8; MAX_FIELD] {
@@ -17,30 +17,32 @@ pub fn field<'a>(file: &mut impl Read, buffer: &'a mut [u8]) -> &'a mut [u8] {
     &mut buffer[..count]
 }
 
+// Reads a field that is always of N bytes; its length is read over.
+pub(crate) fn fixed<const N: usize>(file: &mut impl Read) -> [u8; N] {
+    half(file);
+    bytes(file)
+}
+
+// Reads N bytes, each apart.
+fn bytes<const N: usize>(file: &mut impl Read) -> [u8; N] {
+    let mut bytes = [0; N];
+    for byte in bytes.chunks_mut(1) {
+        files::fill(file, byte);
+    }
+    bytes
+}
+
 // Reads a number of one byte.
 pub fn byte(file: &mut impl Read) -> u8 {
-    let mut bytes = [0u8; 1];
-    files::fill(file, &mut bytes);
-    bytes[0]
+    u8::from_le_bytes(bytes(file))
 }
 
 // Reads a number of two bytes, as a field's length is.
 pub(crate) fn half(file: &mut impl Read) -> u16 {
-    let low = byte(file);
-    let high = byte(file);
-    (low as u16) + 256 * (high as u16)
+    u16::from_le_bytes(bytes(file))
 }
 
 // Reads a number of four bytes.
 pub(crate) fn word(file: &mut impl Read) -> u32 {
-    let low = half(file);
-    let high = half(file);
-    (low as u32) + 65536 * (high as u32)
-}
-
-// Reads a number of eight bytes.
-pub(crate) fn long(file: &mut impl Read) -> u64 {
-    let low = word(file);
-    let high = word(file);
-    (low as u64) + 4294967296 * (high as u64)
+    u32::from_le_bytes(bytes(file))
 }

@@ -14,28 +14,12 @@ pub(crate) fn hash(bytes: &[u8]) -> u64 {
 pub fn after(h: u32, bytes: &[u8]) -> u32
     ensures { result ≡ after h bytes.now }
 {
-    let mut sum = h;
-    let mut i: usize = 0;
-    while i < bytes.len() {
-        sum = after_byte(sum, bytes[i]);
-        i += 1;
-    }
-    sum
-}
-
-// H after four bytes, low bytes first.
-pub(crate) fn after_word(h: u32, x: u32) -> u32 {
-    after_half(after_half(h, (x % 65536) as u16), (x / 65536) as u16)
-}
-
-// H after two bytes, low byte first.
-pub(crate) fn after_half(h: u32, x: u16) -> u32 {
-    after_byte(after_byte(h, (x % 256) as u8), (x / 256) as u8)
+    bytes.iter().fold(h, |h, byte| after_byte(h, *byte))
 }
 
 // H after one byte.
-pub(crate) fn after_byte(h: u32, byte: u8) -> u32
+fn after_byte(h: u32, byte: u8) -> u32
     ensures { result ≡ after_byte h byte }
 {
-    (((h as u64) * 31 + (byte as u64) + 1) % 4294967296) as u32
+    h.wrapping_mul(31).wrapping_add(byte as u32).wrapping_add(1)
 }

@@ -1,7 +1,7 @@
 -- The clauses of a sound state, at what the code counts. Assumes nothing.
 use Prim.Native.Nat.{ℕ, suc, ◌+◌, ◌-◌}
-use mathlib.Core.Path.{◌≡◌, refl}
-use mathlib.Core.Bool.{◌&&◌}
+use mathlib.Core.Path.{◌≡◌, refl, ◌∙◌}
+use mathlib.Core.Bool.{Bool, true, false, ◌&&◌}
 use mathlib.Core.List.{List, []}
 use lib.Dec.{eqb, leb}
 use Rattle.rules.specs.Words.{each}
@@ -9,9 +9,9 @@ use Rattle.rules.specs.Names.{max_stations, max_steps}
 use Rattle.rules.specs.List.{stations}
 use Rattle.rules.specs.State.{State, position, priority, count, in_bound, few_low, empty_at, sound_state}
 use Rattle.rules.specs.List.{later_after, is_at}
+use Rattle.laws.specs.Parts.{of_parts}
 use Rattle.list.proofs.Given.{later_counted}
 use Rattle.rules.specs.State.{few_low_in, empty_in}
-use Rattle.laws.specs.Parts.{of_parts}
 
 -- the whole, at the number of stations and the place of the first later record
 pub sound_given :
@@ -31,3 +31,10 @@ pub sound_whatever : (list : List ℕ) (s : State)
     → sound_state list (of_parts [] s.positions s.priorities s.counts s.n s.b s.m) ≡ sound_state list s
 unfolding sound_state few_low empty_at
 sound_whatever list s = refl
+
+-- a test after one that holds, and after one that doesn't
+pub and_then : (first next value : Bool) → first ≡ true → value ≡ next → value ≡ (first && next)
+and_then first next value e h = rw e h
+
+pub and_else : (first next value : Bool) → first ≡ false → value ≡ first → value ≡ (first && next)
+and_else first next value e h = rw e (h ∙ e)

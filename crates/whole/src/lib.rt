@@ -1,36 +1,39 @@
-// Whether the parts of a state, taken together, are sound against a list, of any values. `soundness` has the clauses on positions,
-// priorities and counts.
+// Whether a state, taken whole, is sound against a list, of any values, and the two tests that most calls begin with. `soundness` has the
+// clauses on positions, priorities and counts.
 #![tactic(auto)]
 
-ghost use Rattle.std.specs.Prelude.{◌≡◌, []};
+ghost use Rattle.std.specs.Prelude.{◌≡◌};
+ghost use Rattle.rules.specs.Words.{refusal};
 ghost use Rattle.rules.specs.State.{sound_state};
-ghost use Rattle.laws.specs.Parts.{of_parts};
+ghost use Rattle.rules.specs.Lights.{lights_tests};
+ghost use Rattle.record.specs.Refusals.{told_number};
+ghost use Rattle.state.specs.View.{as_state};
 
-use record::Record;
+use record::{Record, Refusal};
+use state::State;
 
-// Whether a state of these parts is sound against the list, whatever its variables hold.
-pub fn parts_sound(
-    list: &[u8],
-    positions: &[u16; 8],
-    priorities: &[i16; 8],
-    counts: &[u16; 8],
-    n: u8,
-    b: u8,
-    m: u16,
-) -> bool
-    ensures { result ≡ sound_state list.now (of_parts [] positions.now priorities.now counts.now n b m) }
+// Whether the state is sound against the list, whatever its variables hold.
+pub fn sound(list: &[u8], state: &State) -> bool
+    ensures { result ≡ sound_state list.now (as_state state.now) }
 {
     let count = list::stations(list);
-    if n as usize != count {
-        return false;
+    state.n as usize == count
+        && state.m <= Record::MAX_STEPS
+        && soundness::placed(list, list::later(list, count), state)
+        && soundness::bounded(state)
+        && soundness::few_low(state)
+        && soundness::empty(state)
+}
+
+// Refuses a list that is not sound, and then a state that is not sound against it.
+pub fn judged(list: &[u8], state: &State) -> Result<(), Refusal>
+    ensures { told_number result ≡ refusal (lights_tests list.now (as_state state.now)) }
+{
+    if !list::sound(list) {
+        return Err(Refusal::List);
     }
-    if Record::MAX_STEPS < m {
-        return false;
+    if !sound(list, state) {
+        return Err(Refusal::State);
     }
-    if !soundness::placed(list, list::later(list, count), *positions, n) {
-        return false;
-    }
-    soundness::bounded(*priorities, *counts, n, b)
-        & soundness::few_low(*priorities, n)
-        & soundness::empty(*positions, *priorities, *counts, n)
+    Ok(())
 }

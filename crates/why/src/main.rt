@@ -9,11 +9,12 @@
 
 ghost use Rattle.std.specs.Prelude.{◌≡◌};
 ghost use Rattle.rules.specs.Why.{why};
-ghost use Rattle.run.specs.View.{as_state};
+ghost use Rattle.state.specs.View.{as_state};
 ghost use Rattle.text.specs.View.{text_of};
 ghost use Rattle.wording.specs.Wording.{why_line};
 
-use run::State;
+use state::State;
+use std::io;
 use text::Text;
 
 // The line of a station.
@@ -23,31 +24,23 @@ fn line(state: State, list: &[u8], station: u8) -> Text
     wording::line(station, explaining::why(state, list, station))
 }
 
-// Prints the line of each station, until all are printed or nothing more can be written, and answers whether all are.
-fn print_lines(rt: &impl Print, state: State, list: &[u8]) -> bool {
-    let n = state.n;
-    let mut j: u8 = 0;
-    while j < n {
-        if !files::print(rt, line(state, list, j)) {
-            return false;
-        }
-        j += 1;
+// Prints the line of each station.
+fn print_lines(rt: &impl Print, state: State, list: &[u8]) -> io::Result<()> {
+    for j in 0..state.n {
+        files::print(rt, line(state, list, j))?;
     }
-    true
+    Ok(())
 }
 
 // Prints what three files come to.
-fn tell(rt: &impl Print, program: &[u8], starts: &[u8], picks: &[u8]) {
+fn tell(rt: &impl Print, program: &[u8], starts: &[u8], picks: &[u8]) -> io::Result<()> {
     let mut list = [0u8; sizes::LIST_BYTES];
     let mut log = [0u8; sizes::LOG_BYTES];
     let mut kept = [0u8; sizes::KEPT_BYTES];
     let first = tracing::open(program, starts, &mut list, &mut log, &kept);
     let reached = reaching::reach(first, &list, &mut log, &mut kept, picks);
-    let state = reached.state;
-    let text = reached.text;
-    if print_lines(rt, state, sizes::used(&list, reached.count)) {
-        files::print(rt, text);
-    }
+    print_lines(rt, reached.state, sizes::used(&list, reached.count))?;
+    files::print(rt, reached.text)
 }
 
 fn main(rt: HostRuntime) {
@@ -57,7 +50,8 @@ fn main(rt: HostRuntime) {
     let program_count = files::read(&rt, b"program.rec", &mut program);
     let starts_count = files::read(&rt, b"start.rec", &mut starts);
     let picks_count = files::read(&rt, b"picks.rec", &mut picks);
-    tell(
+    // Where nothing more can be written, the output has no last line, which says so; there is no status for it.
+    let _ = tell(
         &rt,
         &program[..program_count],
         &starts[..starts_count],

@@ -23,15 +23,14 @@ pub fn line(station: u8, why: Why) -> Text
 fn said(first: Text, why: Why) -> Text
     ensures { (text_of result ≡ take max_line (text_of first ++ said_of (as_why why))) × (length (said_of (as_why why)) ≤ 62) }
 {
-    let number = why.number;
-    match number {
+    match why.number {
         0 => first.words(b" may be picked"),
         Record::TURN => first
             .words(b" is behind station ")
             .decimal(why.ahead as u32),
         Record::NOT_READY => waiting(first, why),
         Record::ENDED => first.words(b" has ended"),
-        _ => first.words(b" is refused with ").decimal(number as u32),
+        _ => first.words(b" is refused with ").decimal(why.number as u32),
     }
 }
 
@@ -39,24 +38,24 @@ fn said(first: Text, why: Why) -> Text
 fn waiting(first: Text, why: Why) -> Text
     ensures { (text_of result ≡ take max_line (text_of first ++ waits (as_why why))) × (length (waits (as_why why)) ≤ 62) }
 {
-    let place = why.place as u32;
     let at = first
         .words(b" waits at record ")
-        .decimal(place)
+        .decimal(why.place as u32)
         .words(b": ");
-    let variables = why.variables;
-    let values = why.values;
-    let one = shown(at, variables[0], values[0]);
+    let one = shown(at, why.variables[0], why.values[0]);
     if why.count == 1 {
         return one;
     }
-    shown(one.words(b", "), variables[1], values[1])
+    shown(one.words(b", "), why.variables[1], why.values[1])
 }
 
 // A text with a variable and its value after it: 18 bytes at most.
 fn shown(first: Text, variable: u8, value: u32) -> Text
     ensures { (text_of result ≡ take max_line (text_of first ++ shown_of variable value)) × (length (shown_of variable value) ≤ 18) }
 {
-    let named = first.put(b'v').decimal(variable as u32);
-    named.words(b" is ").decimal(value)
+    first
+        .put(b'v')
+        .decimal(variable as u32)
+        .words(b" is ")
+        .decimal(value)
 }

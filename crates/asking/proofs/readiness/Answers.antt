@@ -1,36 +1,13 @@
--- `asking::readiness` meets its contract: refused by the first test that fails, and else what the record tells where the station stands.
--- Assumes nothing.
-use mathlib.Core.Path.{sym, ap, ◌∙◌}
-use native.Mathlib.Omega.{arith}
+-- `asking::readiness` meets its contract. Assumes nothing.
+use mathlib.Core.Path.{ap, ◌∙◌}
 use Rattle.rules.specs.Ready.{told}
-use Rattle.run.specs.View.{as_state}
-use Rattle.laws.specs.Passed.{Known}
-use Rattle.laws.proofs.Sound.{at_most_eight}
-use Rattle.asking.proofs.Answers.{refused_list, refused_state, refused_station, told_here}
+use Rattle.asking.proofs.Answers.{told_refused, told_taken}
 use Rattle.asking.proofs.readiness.Goals as goal
-use Rattle.asking.proofs.readiness.Goals.{Else-not-sound-2}
 
-pub returns-then-not-sound : goal.returns-then-not-sound
-returns-then-not-sound c =
-    c.refused.ensures ∙ refused_list _ _ _ (sym c.sound.ensures ∙ c.if-not-sound.true)
+pub returns-in-Ok : goal.returns-in-Ok
+returns-in-Ok c =
+    let e = c.in-Ok.ensures in
+    c.from.ensures ∙ ap told e.here ∙ told_taken _ _ _ e.refused
 
-pub returns-then-not-sound-2 : goal.returns-then-not-sound-2
-returns-then-not-sound-2 c =
-    c.refused-then-not-sound-2.ensures
-    ∙ refused_state _ _ _ (sym c.sound.ensures ∙ c.if-not-sound.false)
-    (sym c.sound-2.ensures ∙ c.if-not-sound-2.true)
-
--- both tests passed
-known : (c : Else-not-sound-2) → let a = c.args in Known a.list.now (as_state a.state)
-known c =
-    record { of_list = sym c.sound.ensures ∙ c.if-not-sound.false; of_state = sym c.sound-2.ensures ∙ c.if-not-sound-2.false }
-
-pub returns-then-state-station : goal.returns-then-state-station
-returns-then-state-station c = c.refused-then-state-station.ensures ∙ refused_station _ _ _ (known (goal.at.returns-then-state-station c).Else-not-sound-2) (omega (arith, c.if-state-station.true))
-
-pub bounds-positions-station : goal.bounds-positions-station
-bounds-positions-station c = omega (arith, at_most_eight (known (goal.at.bounds-positions-station c).Else-not-sound-2), c.if-state-station.false)
-
-pub returns : goal.returns
-returns c =
-    c.told.ensures ∙ ap told (rw c.at-e.ensures at c.at.ensures) ∙ told_here _ _ _ (known (goal.at.returns c).Else-not-sound-2) c.if-state-station.false
+pub returns-in-Err : goal.returns-in-Err
+returns-in-Err c = rw c.number.ensures (told_refused _ _ _ c.in-Err.refusal c.in-Err.ensures.refused)

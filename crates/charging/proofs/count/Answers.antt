@@ -1,22 +1,21 @@
--- `charging::count` meets its contract. The loop's invariant: the stations passed are counted. The measure is what is left of the stations.
--- Assumes nothing.
-use mathlib.Core.Path.{◌≡◌, refl}
+-- `charging::count` meets its contract. Assumes nothing.
+use mathlib.Core.Path.{◌≡◌, refl, ◌∙◌}
 use native.Mathlib.Omega.{arith}
 use borrow.Author.Rules.{rules}
 use Rattle.rules.specs.Words.{changed}
 use Rattle.rules.specs.Names.{max_stations}
 use Rattle.laws.proofs.Changed.{changed_turn}
+use Rattle.charging.proofs.Held.{counts_on}
 use Rattle.charging.proofs.count.Goals as goal
 
-pub loop-k-init : goal.loop-k-init
+pub loop-j-init : goal.loop-j-init
 unfolding changed
-loop-k-init c = (search rules, refl)
+loop-j-init c = refl
 
-pub loop-k-preserved : goal.loop-k-preserved
-loop-k-preserved c =
-    (search rules, changed_turn _ _ _ _ _ 0 c.loop-k.invariant.1 c.more.ensures)
+pub loop-j-preserved : goal.loop-j-preserved
+loop-j-preserved c = changed_turn _ _ _ _ _ 0 c.loop-j.invariant (rw c.from.ensures at c.saturating_add.ensures ∙ counts_on _ _ (search rules))
 
 pub returns : goal.returns
 returns c =
-    let e : c.loop-k.k ≡ max_stations = omega arith in
-    rw e at c.loop-k.invariant.1
+    let e : c.loop-j.j ≡ max_stations = omega arith in
+    rw e at c.loop-j.invariant

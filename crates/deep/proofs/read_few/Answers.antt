@@ -1,74 +1,64 @@
 -- `deep::read_few` meets its contract. The loop's invariant: what the slice's records find is found from the place on, in the
--- part as it stands there, with the parts of the rows open around it. Assumes nothing.
-use mathlib.Core.Path.{sym, ap, ◌∙◌}
-use mathlib.Core.Bool.{false}
+-- part as it stands there, with the parts of the row open around it. Assumes nothing.
+use mathlib.Core.Path.{refl, sym, ap, ◌∙◌}
 use Prim.Native.Nat.{ℕ}
 use native.Mathlib.Omega.{arith}
-use borrow.Author.Rules.{rules}
-use lib.ListN.{length-set, length-replicate}
-use Rattle.rules.specs.Names.{max_records}
+use lib.ListN.{length-set}
+use borrow.Author.Tests.{eq-eqb, ne_eqb}
 use Rattle.deep.specs.declared.Read.TheVariants.{Short}
 use Rattle.deep.proofs.Nested.{shift_none}
 use Rattle.deep.proofs.Turn.{turn_end, turn_on, turn_open, turn_out, turn_close, turn_off}
 use Rattle.deep.proofs.Around.{around, around_more, around_fewer, around_finished}
 use Rattle.deep.proofs.read_few.Goals as goal
+use Rattle.deep.proofs.read_few.Goals.{in-On, in-Into, in-Out+else-open-eq0}
 
 pub loop-place-init : goal.loop-place-init
 unfolding around
-loop-place-init c =
-    (omega arith, omega arith, length-replicate {A = ℕ} max_records 0, length-replicate max_records false, shift_none _)
-
-pub loop-place-preserved-in-On : goal.loop-place-preserved-in-On
-loop-place-preserved-in-On c =
-    let loop = c.loop-place in (
-      search rules,
-      omega (arith, loop.invariant.1),
-      loop.invariant.2,
-      loop.invariant.3,
-      turn_on _ _ _ _ _ c.loop-place-test.true loop.invariant.4 _ c.stride.ensures _ c.in-On.is,
-    )
-
-pub loop-place-preserved-in-Into : goal.loop-place-preserved-in-Into
-loop-place-preserved-in-Into c =
-    let loop = c.loop-place in
-    let taken = c.loop-place-test.true in
-    let few = c.requires in
-    let (reached, below, closes, bodies, found) = loop.invariant in (
-      search rules,
-      omega arith,
-      length-set loop.closes loop.«open» _ ∙ closes,
-      length-set loop.bodies loop.«open» _ ∙ bodies,
-      rw (around_more loop.«open» loop.closes loop.bodies loop.part (omega arith) (omega arith))
-          (turn_open _ _ _ _ _ taken loop.invariant.4 _ c.stride.ensures _ c.in-Into.is),
-    )
+loop-place-init c = record { below = omega arith; long = refl; found = shift_none _ }
 
 pub returns-then-open-eq0 : goal.returns-then-open-eq0
 unfolding around
 returns-then-open-eq0 c =
     let loop = c.loop-place in
-    sym (turn_out _ _ _ _ _ c.loop-place-test.true loop.invariant.4 _ c.stride.ensures c.in-Out.is
-    (ap (λ (n : ℕ). around n loop.closes loop.bodies) c.if-open-eq0.true))
+    sym (turn_out _ _ _ _ _ c.loop-place-test.true loop.invariant.found _ c.stride.ensures c.in-Out.is
+    (ap (λ (n : ℕ). around n loop.around) c.if-open-eq0.true))
+
+pub returns-in-Off : goal.returns-in-Off
+returns-in-Off c = sym (turn_off _ _ _ _ _ c.loop-place-test.true c.loop-place.invariant.found _ c.stride.ensures c.in-Off.is)
 
 pub loop-place-preserved : goal.loop-place-preserved
 loop-place-preserved c =
     let loop = c.loop-place in
-    let taken = c.loop-place-test.true in (
-      search rules,
-      omega (arith, loop.invariant.1),
-      loop.invariant.2,
-      loop.invariant.3,
-      rw (c.grown-part.ensures, c.opened.ensures)
-          (turn_close _ _ _ _ _ taken loop.invariant.4 _ c.stride.ensures _ _ c.in-Out.is
-          (around_fewer loop.«open» loop.closes loop.bodies c.if-open-eq0.false)),
-    )
+    let taken = c.loop-place-test.true in
+    elim c.match-stride.branch [
+      | in-On w ↦ record {
+        below = omega arith;
+        long = rw w.around-is loop.invariant.long;
+        found = rw (w.part-is, w.around-is, w.open-is) (turn_on _ _ _ _ _ taken loop.invariant.found _ c.stride.ensures _ w.in-On.is);
+      }
+      | in-Into w ↦ record {
+        below = omega arith;
+        long = rw (w.around-is, length-set) loop.invariant.long;
+        found = rw (w.part-is, w.around-is, w.open-is, around_more loop.«open» loop.around _ (omega (arith, loop.invariant.long)), w.grown.ensures)
+            (turn_open _ _ _ _ _ taken loop.invariant.found _ c.stride.ensures _ w.in-Into.is);
+      }
+      | in-Out+else-open-eq0 w ↦ record {
+        below = omega arith;
+        long = rw w.around-is loop.invariant.long;
+        found = rw (w.part-is, w.around-is, w.open-is)
+            (turn_close _ _ _ _ _ taken loop.invariant.found _ c.stride.ensures _ _ w.in-Out.is
+            (around_fewer loop.«open» loop.around w.if-open-eq0.false));
+      }
+    ]
 
-pub returns-in-Off : goal.returns-in-Off
-returns-in-Off c =
+pub returns-then-open-eq0-2 : goal.returns-then-open-eq0-2
+returns-then-open-eq0-2 c =
     let loop = c.loop-place in
-    sym (turn_off _ _ _ _ _ c.loop-place-test.true loop.invariant.4 _ c.stride.ensures c.in-Off.is)
+    sym (turn_end _ _ _ _ _ loop.invariant.found c.loop-place-test.false
+    ∙ ap Short (rw (around_finished loop.part loop.«open» loop.around, eq-eqb _ _ c.if-open-eq0-2.true)))
 
-pub returns : goal.returns
-returns c =
+pub returns-else-open-eq0-2 : goal.returns-else-open-eq0-2
+returns-else-open-eq0-2 c =
     let loop = c.loop-place in
-    sym (turn_end _ _ _ _ _ loop.invariant.4 c.loop-place-test.false
-    ∙ ap Short (around_finished loop.part loop.«open» loop.closes loop.bodies))
+    sym (turn_end _ _ _ _ _ loop.invariant.found c.loop-place-test.false
+    ∙ ap Short (rw (around_finished loop.part loop.«open» loop.around, ne_eqb _ _ c.if-open-eq0-2.false)))

@@ -1,11 +1,10 @@
 -- `deep::read_few` meets its contract. The loop's invariant: what the slice's records find is found from the place on, in the
--- part as it stands there, with the parts of the rows open around it. Assumes nothing.
+-- part as it stands there, with the parts of the row open around it. Assumes nothing.
 use mathlib.Core.Path.{◌≡◌}
 use mathlib.Core.List.{[]}
-use Prim.Native.Nat.{◌-◌, ◌≤◌}
+use Prim.Native.Nat.{◌≤◌}
 use lib.ListN.{length}
 use Rattle.rules.specs.Names.{max_records}
-use Rattle.rules.specs.Records.{record_count}
 use Rattle.rules.specs.Check.{kinds}
 use Rattle.deep.specs.Reading.{reading}
 use Rattle.deep.proofs.Turn.{FoundIn}
@@ -14,11 +13,8 @@ use Rattle.deep.proofs.read_few.Given as goal
 
 abbrev pub invariant-loop-place : goal.invariant-loop-place
 invariant-loop-place l =
-    (l.place ≤ record_count l.s)
-    × (l.«open» ≤ l.place)
-    × (length l.closes ≡ max_records)
-    × (length l.bodies ≡ max_records)
-    × FoundIn l.s (reading l.initial.part [] (kinds l.s)) l.part (around l.«open» l.closes l.bodies) l.place
-
-abbrev pub decreases-loop-place : goal.decreases-loop-place
-decreases-loop-place l = record_count l.s - l.place
+    record {
+      below : l.«open» ≤ l.place;
+      long : length l.around ≡ max_records;
+      found : FoundIn l.s (reading l.initial.part [] (kinds l.s)) l.part (around l.«open» l.around) l.place;
+    }

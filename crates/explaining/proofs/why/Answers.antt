@@ -1,39 +1,41 @@
--- `explaining::why` meets its contract, by what the station's readiness tells. Assumes nothing.
-use mathlib.Core.Path.{◌≡◌, sym, ap, ◌∙◌}
-use Rattle.rules.specs.Words.{Answer}
-use Rattle.rules.specs.Asked.{asked}
-use Rattle.rules.specs.Why.{bare, said}
-use Rattle.run.specs.View.{as_state}
-use Rattle.explaining.proofs.Answers.{ended_said, waiting_said, second_fits, refused_said, ready_said}
-use Rattle.std.proofs.Common.{arith}
+-- `explaining::why` meets its contract, by what the station's readiness is. Assumes nothing.
+use mathlib.Core.Path.{sym, ap, ◌∙◌}
+use Rattle.rules.specs.Why.{bare, reason_by}
+use Rattle.state.specs.View.{as_state}
+use Rattle.laws.proofs.Sound.{at_most_eight}
+use Rattle.asking.proofs.Answers.{passed}
+use Rattle.explaining.proofs.Answers.{refused_said, taken_said, second_fits}
 use Rattle.explaining.proofs.why.Goals as goal
-use Rattle.explaining.proofs.why.Goals.{After-readiness-told}
 
--- the number told, and the place
-number : (c : After-readiness-told) → let a = c.args in c.readiness-told.result.number ≡ (asked a.list.now (as_state a.state) a.station).number
-number c = ap (λ (a : Answer). a.number) c.readiness-told.ensures
-
-place : (c : After-readiness-told) → let a = c.args in c.readiness-told.result.place ≡ (asked a.list.now (as_state a.state) a.station).place
-place c = ap (λ (a : Answer). a.place) c.readiness-told.ensures
-
-pub returns-then-told-eq-ENDED : goal.returns-then-told-eq-ENDED
-returns-then-told-eq-ENDED c =
-    c.said.ensures ∙ ended_said _ _ _ (sym (number (goal.at.returns-then-told-eq-ENDED c).After-readiness-told) ∙ c.if-told-eq-ENDED.true)
+pub returns-in-Ok-Ended : goal.returns-in-Ok-Ended
+returns-in-Ok-Ended c =
+    let e = c.in-Ok-Ended.ensures in
+    let s = as_state c.args.state in
+    let there = rw c.in-Ok-Ended.field-0-is at e.here in
+    c.from.ensures ∙ taken_said _ s _ e.refused (ap (reason_by c.args.list.now s c.args.station) there)
 
 pub of_waiting-requires : goal.of_waiting-requires
 of_waiting-requires c =
-    rw (← place (goal.at.of_waiting-requires c).After-readiness-told) at (second_fits _ _ _ (sym (number (goal.at.of_waiting-requires c).After-readiness-told) ∙ c.if-told-eq-NOT_READY.true))
+    let e = c.in-Ok-Waiting.ensures in
+    let there = rw c.in-Ok-Waiting.field-0-is at e.here in
+    second_fits _ (as_state c.args.state) _ (passed _ (as_state c.args.state) _ e.refused).0 _ (sym there)
 
-pub returns-then-told-eq-NOT_READY : goal.returns-then-told-eq-NOT_READY
-returns-then-told-eq-NOT_READY c =
-    c.said-then-told-eq-NOT_READY.ensures ∙ ap said (rw (place (goal.at.returns-then-told-eq-NOT_READY c).After-readiness-told) at c.of_waiting.ensures) ∙ waiting_said _ _ _ (sym (number (goal.at.returns-then-told-eq-NOT_READY c).After-readiness-told) ∙ c.if-told-eq-NOT_READY.true)
+pub returns-in-Ok-Waiting : goal.returns-in-Ok-Waiting
+returns-in-Ok-Waiting c =
+    let e = c.in-Ok-Waiting.ensures in
+    let s = as_state c.args.state in
+    let there = rw c.in-Ok-Waiting.field-0-is at e.here in
+    c.from-in-Ok-Waiting.ensures ∙ taken_said _ s _ e.refused (c.of_waiting.ensures ∙ ap (reason_by c.args.list.now s c.args.station) there)
 
-pub returns-then-told-ne0 : goal.returns-then-told-ne0
-returns-then-told-ne0 c =
-    let same = number (goal.at.returns-then-told-ne0 c).After-readiness-told in
-    c.bare.ensures ∙ ap bare same
-    ∙ refused_said _ _ _ (λ e. omega (arith, same, e)) (λ e. omega (arith, same, e)) (λ e. omega (arith, same, e))
+pub of_ready-requires : goal.of_ready-requires
+of_ready-requires c = at_most_eight (passed _ (as_state c.args.state) c.args.station c.in-Ok-Ready.ensures.refused).0
 
-pub returns : goal.returns
-returns c =
-    c.said-2.ensures ∙ ready_said _ _ _ (sym (number (goal.at.returns c).After-readiness-told) ∙ c.if-told-ne0.false) c.ready-all.ensures c.of_ready.ensures
+pub returns-in-Ok-Ready : goal.returns-in-Ok-Ready
+returns-in-Ok-Ready c =
+    let e = c.in-Ok-Ready.ensures in
+    let s = as_state c.args.state in
+    let there = rw c.in-Ok-Ready.field-0-is at e.here in
+    c.from-in-Ok-Ready.ensures ∙ taken_said _ s _ e.refused (c.of_ready.ensures ∙ ap (reason_by c.args.list.now s c.args.station) there)
+
+pub returns-in-Err : goal.returns-in-Err
+returns-in-Err c = c.bare.ensures ∙ ap bare c.number.ensures ∙ refused_said _ _ _ c.in-Err.refusal c.in-Err.ensures.refused

@@ -1,43 +1,42 @@
 -- `keeping::keep` meets its contract. Assumes nothing.
-use Prim.Native.Nat.{◌+◌, ◌/◌, ◌%◌}
-use mathlib.Core.Path.{◌∙◌}
+use Prim.Native.Nat.{◌+◌, ◌-◌, ◌/◌}
+use mathlib.Core.Path.{◌≡◌, ◌∙◌}
 use native.Mathlib.Omega.{arith}
 use lib.Dec.{leb}
-use lib.ListN.{length}
-use borrow.Author.Tests.{ne_eqb, eqb-true, not-false, le-leb, lt-leb}
+use lib.ListN.{length, length-drop}
+use lib.Seq.{length-take-le}
+use borrow.Author.Tests.{ne_eqb, eq-eqb, le-leb, lt-leb}
 use Rattle.rules.specs.Names.{kept_every, kept_length}
 use Rattle.rules.specs.Kept.{kept_offset}
-use Rattle.laws.specs.Parts.{of_parts}
 use Rattle.laws.proofs.Choice.{both, not_both_right}
+use Rattle.state.specs.View.{as_state}
 use Rattle.keeping.specs.Place.{has_place}
 use Rattle.keeping.proofs.Put.{unkept, place_kept}
 use Rattle.keeping.proofs.keep.Goals as goal
-use Rattle.keeping.proofs.keep.Goals.{then-m-eq0-via-then-m-eq0, then-m-eq0-via-else-m-eq0+then-m-ne0}
+use Rattle.keeping.proofs.keep.Goals.{then-state-eq0-via-then-state-eq0, then-state-eq0-via-else-state-eq0+then-state-ne0}
 
-pub returns-then-m-eq0 : goal.returns-then-m-eq0
-returns-then-m-eq0 c =
-    let a = c.args in
-    elim c.then-m-eq0.branch [
-      | then-m-eq0-via-then-m-eq0 w ↦ rw w.if-m-eq0.true
-      | then-m-eq0-via-else-m-eq0+then-m-ne0 w ↦ unkept (has_place a.m a.kept.now) a.kept.now _ (ne_eqb _ 0 w.if-m-ne0.true)
+pub returns-then-state-eq0 : goal.returns-then-state-eq0
+returns-then-state-eq0 c =
+    let s = c.args.state.now in
+    elim c.then-state-eq0.branch [
+      | then-state-eq0-via-then-state-eq0 w ↦ rw w.if-state-eq0.true
+      | then-state-eq0-via-else-state-eq0+then-state-ne0 w ↦ unkept (has_place s.m c.args.kept.now) c.args.kept.now _ (ne_eqb _ 0 w.if-state-ne0.true)
     ]
 
 pub overflow_sub-at : goal.overflow_sub-at
-overflow_sub-at c =
-    let multiple = eqb-true (c.args.m % kept_every) 0 (not-false _ c.if-m-ne0.false-raw) in
-    omega arith
+overflow_sub-at c = omega (arith, c.if-state-ne0.false)
 
 pub returns-then-end-kept : goal.returns-then-end-kept
 returns-then-end-kept c =
-    let a = c.args in
+    let kept = c.args.kept.now in
+    let s = c.args.state.now in
     let put = c.put_state in
-    let at = kept_offset (a.m / kept_every) in
-    let there = both (le-leb 1 a.m (omega (arith, c.if-m-eq0.false))) (le-leb (at + kept_length) (length a.kept.now) c.if-end-kept.true) in
-    let state = of_parts a.vars.now a.positions.now a.priorities.now a.counts.now a.n a.b a.m in
-    let long = put.auto.place ∙ c.put_state-arg-1.given.2 in
-    rw there (place_kept a.kept.now put.new.place state _ (not-false _ c.if-m-ne0.false-raw) long put.ensures)
+    let at = kept_offset (s.m / kept_every) in
+    let there = both (le-leb 1 s.m (omega (arith, c.if-state-eq0.false))) (le-leb (at + kept_length) (length kept) c.if-end-kept.true) in
+    let long : length put.new.place ≡ at + kept_length - at = put.auto.place ∙ length-take-le _ _ (simp length-drop (omega arith)) in
+    rw there (place_kept kept put.new.place (as_state s) _ (eq-eqb _ 0 c.if-state-ne0.false) long put.ensures)
 
 pub returns-else-end-kept : goal.returns-else-end-kept
 returns-else-end-kept c =
-    let a = c.args in
-    rw (not_both_right (leb 1 a.m) _ (lt-leb (kept_offset (a.m / kept_every) + kept_length) (length a.kept.now) c.if-end-kept.false))
+    let m = c.args.state.now.m in
+    rw (not_both_right (leb 1 m) _ (lt-leb (kept_offset (m / kept_every) + kept_length) (length c.args.kept.now) c.if-end-kept.false))

@@ -1,36 +1,20 @@
--- `laying::step_count` meets its contract: after i turns n counts the steps among the first i records.
+-- `laying::step_count` meets its contract: the chain goes over the whole records, and keeps those whose kind is a step.
 -- Assumes nothing.
-use mathlib.Core.Path.{sym, ◌∙◌, ◌≡◌, refl}
-use mathlib.Core.Bool.{Bool}
-use mathlib.Core.List.{[], ◌∷◌}
-use Prim.Native.Nat.{ℕ}
-use native.Mathlib.Omega.{arith}
+use Rattle.std.proofs.Common.{ℕ, Bool, ◌∙◌, ◌+◌, [], ◌∷◌, slice_index_or}
 use borrow.Author.Rules.{rules}
-use Rattle.rules.specs.Words.{among, tally}
+use Rattle.std.specs.Prelude.{cond}
+use Rattle.rules.specs.Words.{among}
 use Rattle.rules.specs.Names.{SKIP, SET, IF, WHILE, AWAIT}
-use Rattle.rules.specs.Records.{record_at, record_count}
 use Rattle.laying.specs.Laid.{step_count}
-use Rattle.laying.proofs.Passes.{counted, passed}
+use Rattle.laying.proofs.Chunks.{tally_chunks}
 use Rattle.laying.proofs.step_count.Goals as goal
-use Rattle.laying.proofs.step_count.Goals.{then-is_step, else-is_step}
-
-pub loop-i-init : goal.loop-i-init
-unfolding tally
-loop-i-init c = (search rules, search rules, refl)
-
-pub loop-i-preserved : goal.loop-i-preserved
-loop-i-preserved c =
-    let file = c.args.file.now in
-    let i = c.loop-i.i in
-    let f : ℕ → Bool = λ k. among (record_at file k).kind (SKIP ∷ SET ∷ IF ∷ WHILE ∷ AWAIT ∷ []) in
-    let step : f i ≡ c.is_step.result = rw (← c.at-r.ensures) (sym c.is_step.ensures) in
-    elim c.if-is_step.branch [
-      | then-is_step w ↦ (omega arith, omega arith, rw w.n-is (counted f _ i c.loop-i.invariant.2 (step ∙ w.if-is_step.true)))
-      | else-is_step w ↦ (omega arith, omega arith, rw w.n-is (passed f _ i c.loop-i.invariant.2 (step ∙ w.if-is_step.false)))
-    ]
 
 pub returns : goal.returns
 unfolding step_count
 returns c =
-    let all : c.loop-i.i ≡ record_count c.args.file.now = omega arith in
-    rw all at c.loop-i.invariant.2
+    let counted = c.count.ensures.runs in
+    let kept = c.filter.ensures.runs counted.0 counted.0.seen counted.1 in
+    let step : ℕ → Bool = λ k. among k (SKIP ∷ SET ∷ IF ∷ WHILE ∷ AWAIT ∷ []) in
+    counted.3
+    ∙ kept.2.5 (λ n x. n + cond (step (slice_index_or x.now 0 0)) 1 0) (λ x b f' n called. search rules)
+    ∙ tally_chunks kept.0 c.args.file.now step _ _ (kept.2.0 ∙ counted.2) (search rules) (search rules) (c.chunks_exact.ensures.runs kept.0 kept.0.seen)

@@ -1,39 +1,24 @@
--- `list::later` meets its contract. The loop's invariant: each record passed, from n on, has no station. The measure is what is left of
--- the records.
--- Assumes nothing.
-use Prim.Native.Nat.{◌/◌}
-use native.Mathlib.Omega.{arith}
-use lib.ListN.{length}
-use borrow.Author.Count.{below_more}
-use borrow.Author.Tests.{eq-eqb, ne_eqb}
-use Rattle.rules.specs.Records.{list_record_at}
-use Rattle.rules.specs.List.{stationed, initials_after}
-use Rattle.laws.proofs.From.{first_from, first_from_none}
+-- `list::later` meets its contract. Assumes nothing.
+use mathlib.Core.Path.{◌≡◌, ◌∙◌}
+use mathlib.Core.Bool.{Bool, true, false, not}
+use Prim.Native.Nat.{ℕ, ◌+◌, ◌*◌}
+use lib.Dec.{eqb}
+use lib.ListN.{get_or}
+use borrow.Author.Rules.{rules}
+use borrow.Author.Tests.{tests}
+use Rattle.std.proofs.lemmas.Iterator.{first_from_Range}
+use Rattle.rules.specs.Names.{no_station}
+use Rattle.rules.specs.Records.{list_record_at, list_count}
+use Rattle.rules.specs.List.{initials_after}
+use Rattle.list.proofs.Ranges.{first_or_past}
 use Rattle.list.proofs.later.Goals as goal
 
-pub loop-p-init : goal.loop-p-init
-loop-p-init c = (omega arith, omega arith, λ k l above. absurd (omega arith))
-
-pub returns-then-list-p : goal.returns-then-list-p
-unfolding initials_after list_record_at
-returns-then-list-p c =
-    let a = c.args in
-    let inv = c.loop-p.invariant in
-    first_from (stationed a.list.now) a.n _ _ inv.0 c.loop-p-test.true
-    (rw (ne_eqb _ _ c.if-list-p.true)) inv.2
-
-pub loop-p-preserved : goal.loop-p-preserved
-unfolding list_record_at
-loop-p-preserved c = (
-  omega arith,
-  omega arith,
-  below_more _ _ c.loop-p.invariant.2 (λ above. rw (eq-eqb _ _ c.if-list-p.false)),
-)
-
 pub returns : goal.returns
-unfolding initials_after
+unfolding initials_after list_record_at
 returns c =
-    let a = c.args in
-    let inv = c.loop-p.invariant in
-    first_from_none (stationed a.list.now) a.n (length a.list.now / 16) _
-    inv.0 (omega arith) inv.2
+    let list = c.args.list.now in
+    let stationed : ℕ → Bool = λ p. not (eqb (get_or list (16 * p + 8) 0) no_station) in
+    c.unwrap_or.ensures
+    ∙ rw c.max.ensures (first_or_past stationed c.args.n (list_count list) c.find.result
+    (first_from_Range _ _ _ _ (λ p. stationed p ≡ true) (λ p. stationed p ≡ false) c.find.ensures.ran
+    (λ x q k. search (rules, tests)) (λ x q k. search (rules, tests))))

@@ -1,24 +1,14 @@
 -- `logs::put` meets its contract. Assumes nothing.
-use Prim.Native.Nat.{◌+◌, ◌*◌}
+use mathlib.Core.Path.{◌≡◌, sym, ◌∙◌}
+use Prim.Native.Nat.{◌+◌, ◌-◌, ◌*◌}
 use native.Mathlib.Omega.{arith}
-use lib.ListN.{length, length-set}
-use borrow.Author.Tests.{le-leb, lt-leb}
-use Rattle.laws.proofs.Written.{written_record}
+use lib.Seq.{drop-drop}
+use Rattle.rules.specs.Words.{written}
 use Rattle.logs.proofs.put.Goals as goal
 
-pub bounds-log-at-then-at-log : goal.bounds-log-at-then-at-log
-bounds-log-at-then-at-log c = simp length-set (omega (arith, c.if-at-log.true))
-
-pub returns-then-at-log : goal.returns-then-at-log
-returns-then-at-log c =
-    let a = c.args in
-    rw (
-      le-leb (2 * (a.n + a.m + 1)) (length a.log.now) (omega (arith, c.if-at-log.true, c.place-at.ensures)),
-      ← c.place-at.ensures,
-    )
-    (written_record _ _ _ _ c.if-at-log.true)
-
-pub returns-else-at-log : goal.returns-else-at-log
-returns-else-at-log c =
-    let a = c.args in
-    rw (lt-leb (2 * (a.n + a.m + 1)) (length a.log.now) (omega (arith, c.if-at-log.false, c.place-at.ensures)))
+pub returns-then-room : goal.returns-then-room
+unfolding written
+returns-then-room c =
+    let at = 2 * (c.args.n + c.args.m) in
+    let size : at + 2 - at ≡ 2 = omega arith in
+    rw (sym c.room.ensures ∙ c.if-room.true, c.copy_from_slice.ensures.after, c.place-at.ensures, size, drop-drop)

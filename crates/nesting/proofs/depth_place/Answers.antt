@@ -7,7 +7,7 @@ use native.Mathlib.Omega.{arith}
 use lib.Dec.{leb}
 use lib.ListN.{get_or}
 use mathlib.Core.Logic.{⊎_elim}
-use borrow.Author.Tests.{lt-leb}
+use borrow.Author.Tests.{lt-leb, lt-ltb, le-ltb}
 use borrow.Author.Rules.{rules}
 use Rattle.rules.specs.Names.{max_depth}
 use Rattle.rules.specs.Shape.{opens}
@@ -17,7 +17,12 @@ use Rattle.nesting.proofs.depth_place.Goals as goal
 use Rattle.nesting.proofs.depth_place.Goals.{Joined-else-opens}
 
 pub loop-at-init : goal.loop-at-init
-loop-at-init c = (omega arith, omega arith, deep_start _)
+loop-at-init c = record { within = omega arith; found = deep_start _ }
+
+pub returns-then-depth-ge-MAX_DEPTH : goal.returns-then-depth-ge-MAX_DEPTH
+returns-then-depth-ge-MAX_DEPTH c =
+    let deep = both (sym c.opens.ensures ∙ c.if-opens.true) (search rules) in
+    rw (deep_here _ _ _ c.loop-at-test.true c.loop-at.invariant.found deep, lt-ltb _ _ c.loop-at-test.true)
 
 -- where the test does not refuse
 passed : (c : Joined-else-opens)
@@ -29,18 +34,15 @@ passed c =
     (λ closed. not_both_left (opens k) _ (sym c.opens.ensures ∙ closed))
     c.else-opens.either
 
-pub returns-then-depth-ge-MAX_DEPTH : goal.returns-then-depth-ge-MAX_DEPTH
-returns-then-depth-ge-MAX_DEPTH c =
-    let deep = both (sym c.opens.ensures ∙ c.if-opens.true) (search rules) in
-    sym (deep_here _ _ _ c.loop-at-test.true c.loop-at.invariant.2 deep)
-
 pub loop-at-preserved : goal.loop-at-preserved
 loop-at-preserved c =
-    rw c.depth_after-depth.ensures (
-      omega arith,
-      deep_within _ _ _ c.loop-at-test.true c.loop-at.invariant.2 c.loop-at.invariant.1 (passed (goal.at.loop-at-preserved c).Joined-else-opens),
-      deep_on _ _ _ c.loop-at-test.true c.loop-at.invariant.2 (passed (goal.at.loop-at-preserved c).Joined-else-opens),
-    )
+    let l = c.loop-at in
+    let goes_on = passed (goal.at.loop-at-preserved c).Joined-else-opens in
+    rw c.depth_after-depth.ensures record {
+      within = deep_within _ _ _ c.loop-at-test.true l.invariant.found l.invariant.within goes_on;
+      found = deep_on _ _ _ c.loop-at-test.true l.invariant.found goes_on;
+    }
 
 pub returns : goal.returns
-returns c = sym (deep_end _ _ _ c.loop-at.invariant.2 c.loop-at-test.false)
+returns c =
+    rw (deep_end _ _ _ c.loop-at.invariant.found c.loop-at-test.false, le-ltb _ _ c.loop-at-test.false)

@@ -1,41 +1,35 @@
--- `replaying::replay` meets its contract. The loop's invariant: the records to come, on the parts as they are, answer what all of them do on
--- those given. The measure is what is left of the count.
--- Assumes nothing.
-use mathlib.Core.Path.{◌≡◌, refl, sym, ◌∙◌}
+-- `replaying::replay` meets its contract. Assumes nothing.
+use mathlib.Core.Path.{◌≡◌, refl, sym, ap, ◌∙◌}
+use Prim.Native.Nat.{◌+◌, ◌-◌}
 use native.Mathlib.Omega.{arith}
-use Rattle.picking.specs.Took.{Took}
+use borrow.Author.Rules.{rules}
+use Rattle.std.specs.Prelude.{Err}
+use Rattle.state.specs.View.{as_state}
+use Rattle.laws.specs.Narrow.{narrow}
+use Rattle.picking.specs.Took.{picked}
+use Rattle.picking.proofs.Refused.{not_none}
 use Rattle.replaying.specs.Replayed.{took_from}
 use Rattle.replaying.proofs.Records.{from_taken, from_refused}
 use Rattle.replaying.proofs.replay.Goals as goal
-use Rattle.replaying.proofs.replay.Goals.{In-loop-left}
 
-pub loop-left-init : goal.loop-left-init
-loop-left-init c = (refl, refl)
-
--- the parts before a pick
-abbrev given : (c : In-loop-left) → Took
-given c =
-    let at = c.loop-left in
-    record { number = 0; vars = at.vars; positions = at.positions; priorities = at.priorities; counts = at.counts }
-
-pub returns-then-number-ne0 : goal.returns-then-number-ne0
-returns-then-number-ne0 c =
+pub returns-in_err-pick : goal.returns-in_err-pick
+returns-in_err-pick c =
     let a = c.args in
-    let at = c.loop-left in
-    let is = rw (c.byte.ensures, c.byte-in-loop-left.ensures) at c.pick-number.ensures in
-    sym (at.invariant.1 ∙ from_refused a.list.now a.log.now a.n a.b at.i (given (goal.at.returns-then-number-ne0 c).In-loop-left) is at.left c.loop-left-test.true c.if-number-ne0.true)
+    let at = c.loop-i in
+    let told : c.from_residual.result ≡ Err c.in_err-pick.field-0.0 = search rules in
+    rw told (from_refused a.list.now a.log.now at.i (as_state at.state) (c.in_err-pick.ensures ∙ ap (picked (narrow a.list.now) (as_state at.state)) c.at.ensures)
+    {count = a.first + a.count - (at.i + 1)} (omega arith) (not_none c.in_err-pick.field-0.0) ∙ sym at.invariant)
 
-pub loop-left-preserved : goal.loop-left-preserved
-loop-left-preserved c =
+pub loop-i-preserved : goal.loop-i-preserved
+loop-i-preserved c =
     let a = c.args in
-    let at = c.loop-left in
-    let is = rw (c.byte.ensures, c.byte-in-loop-left.ensures, c.if-number-ne0.false) at c.pick-number.ensures in (
-      omega (arith, c.loop-left-test.true, at.invariant.0),
-      at.invariant.1 ∙ from_taken a.list.now a.log.now a.n a.b at.i (given (goal.at.loop-left-preserved c).In-loop-left) is at.left c.loop-left-test.true refl,
-    )
+    let at = c.loop-i in
+    at.invariant ∙ sym (from_taken a.list.now a.log.now at.i (as_state at.state)
+    (c.in_ok-pick.ensures ∙ ap (picked (narrow a.list.now) (as_state at.state)) c.at.ensures) (omega arith) (omega arith) refl)
 
 pub returns : goal.returns
 unfolding took_from
 returns c =
-    let none : c.loop-left.left ≡ 0 = omega arith in
-    sym (rw none at c.loop-left.invariant.1)
+    let a = c.args in
+    let none : a.first + a.count - c.loop-i.i ≡ 0 = omega arith in
+    sym (c.loop-i.invariant ∙ rw none)

@@ -1,38 +1,28 @@
--- `sequence::field_place` meets its contract. The loop's invariant: every record before the place is in the table. Assumes nothing.
-use mathlib.Core.Path.{◌≡◌, sym, ap, ◌∙◌}
-use mathlib.Core.Bool.{not}
-use native.Mathlib.Omega.{arith}
-use borrow.Author.Count.{below_more}
-use Rattle.rules.specs.Records.{record_at, record_count}
+-- `sequence::field_place` meets its contract. Assumes nothing.
+use mathlib.Core.Path.{◌≡◌, ap}
+use mathlib.Core.Bool.{Bool, not}
+use mathlib.Core.List.{List}
+use Prim.Native.Nat.{ℕ}
+use borrow.Author.Rules.{rules}
+use borrow.Author.Tests.{tests}
+use Rattle.std.proofs.lemmas.Iterator.{YieldsList-from_slice}
+use Rattle.std.proofs.lemmas.Iterator.Search.{position_from_yields_List}
+use Rattle.std.specs.List.{position_or_len}
+use Rattle.std.specs.Simd.{first_chunks}
+use Rattle.rules.specs.Records.{record_from, record_count}
 use Rattle.rules.specs.Fields.{fields_right}
 use Rattle.rules.specs.Check.{field_place}
-use Rattle.laws.proofs.Places.{first_is, first_none}
+use Rattle.sequence.proofs.Chunks.{record_of_chunk, position_chunks}
 use Rattle.sequence.proofs.field_place.Goals as goal
-use Rattle.sequence.proofs.field_place.Goals.{After-fields_right}
-
-pub loop-at-init : goal.loop-at-init
-loop-at-init c = (omega arith, λ k l. absurd (omega arith))
-
--- what the test of the record at the place says
-tested : (c : After-fields_right)
-    → c.fields_right.result ≡ fields_right (record_at c.args.file.now c.loop-at.at)
-tested c = c.fields_right.ensures ∙ ap fields_right c.at.ensures
-
-pub returns-then-not-fields_right : goal.returns-then-not-fields_right
-unfolding field_place
-returns-then-not-fields_right c =
-    sym (first_is _ _ _ c.loop-at-test.true
-    (ap not (sym (tested (goal.at.returns-then-not-fields_right c).After-fields_right) ∙ c.if-not-fields_right.true))
-    c.loop-at.invariant.1)
-
-pub loop-at-preserved : goal.loop-at-preserved
-loop-at-preserved c = (
-  omega arith,
-  below_more _ _ c.loop-at.invariant.1 (ap not (sym (tested (goal.at.loop-at-preserved c).After-fields_right) ∙ c.if-not-fields_right.false)),
-)
 
 pub returns : goal.returns
 unfolding field_place
 returns c =
-    let e : c.loop-at.at ≡ record_count c.args.file.now = omega arith in
-    e ∙ sym (first_none _ _ (rw e at c.loop-at.invariant.1))
+    let file = c.args.file.now in
+    let n = record_count file in
+    let outside : List ℕ → Bool = λ bytes. not (fields_right (record_from bytes 0)) in
+    let at : position_or_len outside (first_chunks 8 n file) ≡ field_place file =
+    position_chunks outside file n _ (λ i l. ap (λ r. not (fields_right r)) (record_of_chunk file i)) in
+    let answer = position_from_yields_List outside _ _ _ c.position.ensures.ran (YieldsList-from_slice c.as_chunks.result.0.now cc)
+    (λ x b q k. search (rules, tests)) in
+    rw (c.as_chunks.ensures.front_len, c.as_chunks.ensures.front, at) at answer

@@ -1,39 +1,11 @@
--- `soundness::bounded` meets its contract. The loop's invariant: each priority passed is, with its count, at most b. The measure is what is
--- left of the stations.
--- Assumes nothing.
-use mathlib.Core.Path.{◌≡◌, sym, ◌∙◌}
-use native.Mathlib.Omega.{arith}
-use mir.Syntax.{w16}
-use mir.ValLaws.{to_z-of_z}
-use borrow.Author.Rules.{rules}
-use borrow.Author.Count.{below_none, below_more}
-use Rattle.laws.proofs.Places.{each_all, each_not}
+-- `soundness::bounded` meets its contract. Assumes nothing.
+use Rattle.std.proofs.Common.{refl, rules}
 use Rattle.rules.specs.State.{priority_in, count_in, in_bound}
+use Rattle.chains.proofs.All.{each_from_below}
 use Rattle.soundness.proofs.bounded.Goals as goal
-use Rattle.soundness.proofs.bounded.Goals.{After-within}
-
-pub loop-j-init : goal.loop-j-init
-loop-j-init c = (search rules, below_none _)
-
--- the priority of the turn's station, with its count
-judged : (c : After-within) →
-    let a = c.args in
-    c.within.result ≡ in_bound a.b (priority_in a.priorities c.loop-j.j) (count_in a.counts c.loop-j.j)
-judged c =
-    rw (to_z-of_z w16 _ (record { sfits = c.priority.type_inv }), c.priority.ensures, c.entry.ensures) at c.within.ensures
-
-pub returns-then-not-within : goal.returns-then-not-within
-returns-then-not-within c =
-    sym (each_not _ c.args.n c.loop-j.j (search rules)
-    (sym (judged (goal.at.returns-then-not-within c).After-within) ∙ c.if-not-within.true))
-
-pub loop-j-preserved : goal.loop-j-preserved
-loop-j-preserved c = (
-  search rules,
-  below_more _ _ c.loop-j.invariant.1
-      (sym (judged (goal.at.loop-j-preserved c).After-within) ∙ c.if-not-within.false),
-)
 
 pub returns : goal.returns
 returns c =
-    sym (each_all _ c.args.n (λ k l. c.loop-j.invariant.1 k (omega arith)))
+    let s = c.args.state.now in
+    each_from_below _ _ _ c.all.result (λ j. in_bound s.b (priority_in s.priorities j) (count_in s.counts j)) s.n refl c.all.ensures.ran
+    (λ x b q k. search rules)

@@ -1,6 +1,4 @@
--- `soundness::low_count` meets its contract. The loop's invariant: those passed are counted. The measure is what is left of the stations.
--- Assumes nothing.
-use Prim.Native.Nat.{◌-◌, ◌≤◌}
+-- `soundness::low_count` meets its contract. The loop's invariant: those passed are counted. Assumes nothing.
 use mathlib.Core.Path.{◌≡◌}
 use lib.IntN.{pos, neg_ℤ}
 use lib.Signed.{le_z}
@@ -9,7 +7,4 @@ use Rattle.rules.specs.State.{priority_in}
 use Rattle.soundness.proofs.low_count.Given as goal
 
 abbrev pub invariant-loop-j : goal.invariant-loop-j
-invariant-loop-j l = (l.j ≤ l.n-2) × (l.count ≡ tally (λ i. le_z (priority_in l.priorities i) (neg_ℤ (pos l.k))) l.j)
-
-abbrev pub decreases-loop-j : goal.decreases-loop-j
-decreases-loop-j l = l.n-2 - l.j
+invariant-loop-j l = (l.count ≡ tally (λ i. le_z (priority_in l.state.priorities i) (neg_ℤ (pos l.k))) l.j)

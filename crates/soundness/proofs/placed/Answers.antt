@@ -1,28 +1,12 @@
--- `soundness::placed` meets its contract. The loop's invariant: each station passed stands right. The measure is what is left of the
--- stations.
--- Assumes nothing.
-use mathlib.Core.Path.{sym, ◌∙◌}
-use native.Mathlib.Omega.{arith}
-use borrow.Author.Rules.{rules}
-use borrow.Author.Count.{below_none, below_more}
-use Rattle.laws.proofs.Places.{each_all, each_not}
+-- `soundness::placed` meets its contract. Assumes nothing.
+use Rattle.std.proofs.Common.{refl, rules}
+use Rattle.rules.specs.List.{is_at}
+use Rattle.rules.specs.State.{position_in}
+use Rattle.chains.proofs.All.{each_from_below}
 use Rattle.soundness.proofs.placed.Goals as goal
-
-pub loop-j-init : goal.loop-j-init
-loop-j-init c = (search rules, below_none _)
-
-pub returns-then-not-outside : goal.returns-then-not-outside
-returns-then-not-outside c =
-    let a = c.args in
-    let fails = sym (rw c.entry.ensures at c.outside.ensures) ∙ c.if-not-outside.true in
-    sym (each_not _ a.n c.loop-j.j (search rules) fails)
-
-pub loop-j-preserved : goal.loop-j-preserved
-loop-j-preserved c =
-    let passes = sym (rw c.entry.ensures at c.outside.ensures) ∙ c.if-not-outside.false in
-    (search rules, below_more _ _ c.loop-j.invariant.1 passes)
 
 pub returns : goal.returns
 returns c =
-    let a = c.args in
-    sym (each_all _ a.n (λ k l. c.loop-j.invariant.1 k (omega arith)))
+    let s = c.args.state.now in
+    each_from_below _ _ _ c.all.result (λ j. is_at c.args.list.now c.args.later 0 j (position_in s.positions j)) s.n refl c.all.ensures.ran
+    (λ x b q k. search rules)

@@ -4,9 +4,8 @@ use mathlib.Core.Path.{◌≡◌, refl}
 use mathlib.Core.Bool.{true}
 use native.Mathlib.Omega.{arith}
 use lib.Dec.{leb}
-use lib.ListN.{length, length-set}
+use lib.ListN.{length}
 use lib.Seq.{take_all}
-use borrow.Author.Rules.{rules}
 use borrow.Author.Tests.{le-leb, lt-leb}
 use Rattle.rules.specs.Words.{written}
 use Rattle.rules.specs.Names.{max_stations}
@@ -34,23 +33,15 @@ returns-then-log-resets c =
 
 pub loop-j-init : goal.loop-j-init
 unfolding written start_records
-loop-j-init c = (search rules, refl, refl)
-
-pub bounds-log-at-in-loop-j : goal.bounds-log-at-in-loop-j
-bounds-log-at-in-loop-j c =
-    simp length-set (omega (arith, c.loop-j-test.true, c.loop-j.invariant.1, c.if-log-resets.false))
+loop-j-init c = refl
 
 pub loop-j-preserved : goal.loop-j-preserved
 loop-j-preserved c =
-    let inv = c.loop-j.invariant in (
-      search rules,
-      simp length-set inv.1,
-      rw inv.2 (starts_more _ _ _ c.loop-j-test.true c.if-log-resets.false),
-    )
+    rw c.loop-j.invariant (starts_more _ _ _ c.loop-j-test.true c.if-log-resets.false)
 
 pub returns : goal.returns
 returns c =
     let a = c.args in
     let all : room (length a.resets.now) a.log.now ≡ true =
     both (le-leb (length a.resets.now) max_stations c.if-resets-gt-MAX_STATIONS.false) (le-leb _ (length a.log.now) c.if-log-resets.false) in
-    rw all (refl, rw (take_all c.loop-j.j a.resets.now (omega arith)) at c.loop-j.invariant.2)
+    rw all (refl, rw (take_all c.loop-j.j a.resets.now (omega arith)) at c.loop-j.invariant)

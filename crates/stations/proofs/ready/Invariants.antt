@@ -1,6 +1,4 @@
--- `stations::ready` meets its contract. The loop's invariant: the stations passed are filled in. The measure is what is left of them.
--- Assumes nothing.
-use Prim.Native.Nat.{◌-◌, ◌≤◌, min}
+-- `stations::ready` meets its contract. The loop's invariant: the stations passed are filled in. Assumes nothing.
 use mathlib.Core.Path.{◌≡◌}
 use mathlib.Core.Bool.{false}
 use lib.ListN.{replicate}
@@ -12,9 +10,4 @@ use Rattle.stations.specs.Places.{readiness_by}
 use Rattle.stations.proofs.ready.Given as goal
 
 abbrev pub invariant-loop-j : goal.invariant-loop-j
-invariant-loop-j l =
-    (l.j ≤ min l.n max_stations)
-    × (l.all ≡ changed (λ k was. says_ready (readiness_by l.list l.vars (position_in l.positions k))) l.j (replicate max_stations false))
-
-abbrev pub decreases-loop-j : goal.decreases-loop-j
-decreases-loop-j l = max_stations - l.j
+invariant-loop-j l = l.all ≡ changed (λ k was. says_ready (readiness_by l.list l.vars (position_in l.positions k))) l.j (replicate max_stations false)

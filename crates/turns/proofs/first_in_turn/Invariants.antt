@@ -1,7 +1,4 @@
--- `turns::first_in_turn` meets its contract. The loop's invariant: of the stations passed the one found is it. The measure is what is left of the
--- stations.
--- Assumes nothing.
-use Prim.Native.Nat.{◌-◌, ◌≤◌}
+-- `turns::first_in_turn` meets its contract. The loop's invariant: of the stations passed the one found is it. Assumes nothing.
 use mathlib.Core.Bool.{false}
 use lib.ListN.{get_or}
 use Rattle.rules.specs.State.{priority_in}
@@ -9,7 +6,4 @@ use Rattle.turns.proofs.First.{Sought}
 use Rattle.turns.proofs.first_in_turn.Given as goal
 
 abbrev pub invariant-loop-j : goal.invariant-loop-j
-invariant-loop-j l = (l.j ≤ l.n) × Sought (λ k. get_or l.all k false) (priority_in l.priorities) l.n l.j l.found
-
-abbrev pub decreases-loop-j : goal.decreases-loop-j
-decreases-loop-j l = l.n - l.j
+invariant-loop-j l = Sought (λ k. get_or l.all k false) (priority_in l.priorities) l.j l.found

@@ -13,8 +13,8 @@ returns c =
     let a = c.args in (
       put_four max_line (text_of a.first) (ascii "v") (decimal a.variable) (ascii " is ") (decimal a.value)
           c.put.ensures
-          c.decimal-named.ensures
+          c.decimal.ensures
           c.words.ensures
-          c.decimal.ensures,
+          c.decimal-2.ensures,
       length_shown a.variable a.value (omega (arith, c.ranges.variable.fits)) (omega (arith, c.ranges.value.fits)),
     )

@@ -1,14 +1,10 @@
--- `layout::Laying::push` meets its contract: a part opens where fewer than sixteen are open, and the test is the one that
--- the definition makes.
+-- `layout::Laying::push` meets its contract: where a part opens, what comes after its statement is set, and the other number stays.
 -- Assumes nothing.
-use borrow.Author.Tests.{lt-ltb, le-ltb}
+use borrow.Author.Tests.{lt-ltb}
 use Rattle.layout.specs.Layout.{pushed}
+use Rattle.layout.proofs.Parts.{after_set, second_kept}
 use Rattle.layout.proofs.Laying.push.Goals as goal
 
-pub returns-then-depth-lt-MAX_DEPTH : goal.returns-then-depth-lt-MAX_DEPTH
+pub returns-then-self-lt-MAX_DEPTH : goal.returns-then-self-lt-MAX_DEPTH
 unfolding pushed
-returns-then-depth-lt-MAX_DEPTH c = rw (lt-ltb _ _ c.if-depth-lt-MAX_DEPTH.true)
-
-pub returns-else-depth-lt-MAX_DEPTH : goal.returns-else-depth-lt-MAX_DEPTH
-unfolding pushed
-returns-else-depth-lt-MAX_DEPTH c = rw (le-ltb _ _ c.if-depth-lt-MAX_DEPTH.false)
+returns-then-self-lt-MAX_DEPTH c = rw (lt-ltb _ _ c.if-self-lt-MAX_DEPTH.true, after_set, second_kept)

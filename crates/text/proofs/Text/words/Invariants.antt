@@ -1,14 +1,9 @@
--- `text::Text::words` meets its contract. The loop's invariant: the bytes passed are in the text. The measure is what is left of them.
--- Assumes nothing.
+-- `text::Text::words` meets its contract. The loop's invariant: the bytes passed are in the text. Assumes nothing.
 use Rattle.text.specs.View.{max_line, text_of}
 use mathlib.Core.List.{◌++◌}
 use mathlib.Core.Path.{◌≡◌}
-use Prim.Native.Nat.{◌≤◌, ◌-◌}
-use lib.ListN.{length, take}
+use lib.ListN.{take}
 use Rattle.text.proofs.Text.words.Given as goal
 
-abbrev pub invariant-loop-i : goal.invariant-loop-i
-invariant-loop-i l = (l.i ≤ length l.bytes) × (text_of l.text ≡ take max_line (text_of l.initial.text ++ take l.i l.bytes))
-
-abbrev pub decreases-loop-i : goal.decreases-loop-i
-decreases-loop-i l = length l.bytes - l.i
+abbrev pub invariant-loop-byte : goal.invariant-loop-byte
+invariant-loop-byte l = text_of l.text ≡ take max_line (text_of l.initial.text ++ take l.byte-index l.bytes)

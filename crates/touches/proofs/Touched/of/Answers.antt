@@ -16,11 +16,11 @@ returns-then-ready c =
     let a = c.args in
     c.with_body.ensures
     ∙ rw c.with_record-itself.ensures
-    (touched_await a.list.now (as_list_record a.e) a.ready (both (eq-eqb _ AWAIT c.if-own-eq-AWAIT.true) c.if-ready.true))
+    (touched_await a.list.now (as_list_record a.e) a.ready (both (eq-eqb _ AWAIT c.if-e-eq-AWAIT.true) c.if-ready.true))
 
 pub returns : goal.returns
 returns c =
     let a = c.args in
     let shut : (eqb a.e.own.kind AWAIT && a.ready) ≡ false =
-    ⊎_elim (λ w. rw (w.1, and-false)) (λ no. rw (ne_eqb _ AWAIT no)) c.else-own-eq-AWAIT.either in
+    ⊎_elim (λ w. rw (w.1, and-false)) (λ no. rw (ne_eqb _ AWAIT no)) c.else-e-eq-AWAIT.either in
     c.with_record-itself.ensures ∙ touched_itself a.list.now (as_list_record a.e) a.ready shut

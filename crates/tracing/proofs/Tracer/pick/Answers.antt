@@ -14,6 +14,7 @@ unfolding pick_piece
 returns-then-taken-ne0 c =
     rw (
       lt-ltb _ _ c.if-picks-i.false,
+      ← c.at.ensures,
       ← c.taken-taken.ensures,
       ne_eqb _ _ c.if-taken-ne0.true,
       c.print_then-then-taken-ne0.ensures,
@@ -25,6 +26,7 @@ unfolding pick_piece
 returns c =
     rw (
       lt-ltb _ _ c.if-picks-i.false,
+      ← c.at.ensures,
       ← c.taken-taken.ensures,
       eq-eqb _ _ c.if-taken-ne0.false,
       c.print_then-2.ensures,

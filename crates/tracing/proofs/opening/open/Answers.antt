@@ -2,6 +2,7 @@
 use Rattle.tracing.specs.Tracing.{opened}
 use Rattle.tracing.proofs.Opened.{opened_none, opened_some}
 use borrow.Author.Tests.{eq-eqb, ne_eqb}
+use native.Mathlib.Omega.{arith}
 use Rattle.tracing.proofs.opening.open.Goals as goal
 
 pub returns-then-built-ne0 : goal.returns-then-built-ne0
@@ -9,14 +10,15 @@ unfolding opened
 returns-then-built-ne0 c =
     rw (← c.build-built.ensures, ne_eqb _ _ c.if-built-ne0.true, c.ending.ensures)
 
-pub returns-then-starts-eq0 : goal.returns-then-starts-eq0
+pub returns-in_default : goal.returns-in_default
 unfolding opened
-returns-then-starts-eq0 c =
+returns-in_default c =
     rw (
       ← c.build-built.ensures,
       eq-eqb _ _ c.if-built-ne0.false,
-      opened_none _ _ _ _ c.if-starts-eq0.true,
-      c.ending-then-starts-eq0.ensures,
+      opened_none _ _ c.args.starts.now _ (omega arith),
+      c.ending-in_default.ensures,
+      c.number.ensures,
     )
 
 pub shape_of-list-then-started-ne0 : goal.shape_of-list-then-started-ne0
@@ -28,7 +30,7 @@ returns-then-started-ne0 c =
     rw (
       ← c.build-built.ensures,
       eq-eqb _ _ c.if-built-ne0.false,
-      opened_some _ _ _ _ c.if-starts-eq0.false,
+      opened_some _ _ c.args.starts.now _ (λ none. omega arith),
       ← c.used.ensures,
       ← c.start-started.ensures,
       ne_eqb _ _ c.if-started-ne0.true,
@@ -41,7 +43,7 @@ returns c =
     rw (
       ← c.build-built.ensures,
       eq-eqb _ _ c.if-built-ne0.false,
-      opened_some _ _ _ _ c.if-starts-eq0.false,
+      opened_some _ _ c.args.starts.now _ (λ none. omega arith),
       ← c.used.ensures,
       ← c.start-started.ensures,
       eq-eqb _ _ c.if-started-ne0.false,

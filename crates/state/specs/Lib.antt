@@ -1,0 +1,2 @@
+-- The code's states, set beside the rules.
+pub mod View

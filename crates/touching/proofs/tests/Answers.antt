@@ -1,7 +1,0 @@
--- `touching::tests` meets its contract: the kinds are those of the list, in its order.
--- Assumes nothing.
-use mathlib.Core.Bool.{or_assoc, or-false}
-use Rattle.touching.proofs.tests.Goals as goal
-
-pub returns : goal.returns
-returns c = simp (or_assoc, or-false)
