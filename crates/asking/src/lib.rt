@@ -16,6 +16,7 @@ use state::State;
 
 // What a station's readiness tells. Refused, place 0 and the number: LIST where the list is not sound, STATE where the state is not, COMPONENT
 // where there is no such station.
+#[tactic(auto, using(crate::proofs::Answers::told_refused, crate::proofs::Answers::told_taken))]
 pub fn readiness(state: State, list: &[u8], station: u8) -> Told
     ensures { ReadinessPromise list.now (as_state state) station result }
 {

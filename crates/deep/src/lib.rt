@@ -1,5 +1,5 @@
-// Reading a part that lies deeper than an accepted file has, with no call for each part that is open: the parts around it are kept in one
-// row, so that no file takes more stack than this.
+// Reading a part that lies deeper than an accepted file has, with no call for each part that is open: what closes those around it, and whether
+// they stand in a body, is kept in one row, so that no file takes more stack than this.
 #![tactic(auto)]
 
 ghost use Rattle.std.specs.Prelude.{◌≡◌, false, [], ◌*◌, ◌≤◌, length};
@@ -37,13 +37,13 @@ fn read_few(s: &[u8], mut part: Part) -> Read
     requires { length s.now ≤ 8 * max_records }
     ensures { result ≡ reading part [] (kinds s.now) }
 {
-    let mut around = [Part::opened(0, false); Record::MAX_RECORDS];
+    let mut around = [(0, false); Record::MAX_RECORDS];
     let mut open: usize = 0;
     for place in 0..s.len() / 8 {
         match part.stride(s[8 * place]) {
             Stride::On(same) => part = same,
             Stride::Into(inner) => {
-                around[open] = part.grown();
+                around[open] = (part.close, part.body);
                 open += 1;
                 part = inner;
             }
@@ -52,7 +52,8 @@ fn read_few(s: &[u8], mut part: Part) -> Read
                     return Read::Closed(place);
                 }
                 open -= 1;
-                part = around[open];
+                let (close, body) = around[open];
+                part = Part::opened(close, body).grown();
             }
             Stride::Off => return Read::Wrong(place),
         }

@@ -13,6 +13,7 @@ mod answer;
 pub use answer::Lights;
 
 // The lights of a state. Refused, all zeros but the number: LIST where the list is not sound, STATE where the state is not.
+#[tactic(auto, using(crate::proofs::Answers::refused, crate::proofs::Answers::gathered_all, laws::proofs::Passed::lights_passed))]
 pub fn lights(state: State, list: &[u8]) -> Lights
     ensures { LightsPromise list.now (as_state state) result }
 {

@@ -33,8 +33,8 @@ module _ (list : List ℕ) (given : State) (p : Pick) where
   s = state_of given.vars given.positions given.priorities given.counts given.n given.b
 
   -- whether station j is ready where it stands
-  abbrev judged : ℕ → Bool
-  judged j = ready_from list given.vars (position_in given.positions j)
+  abbrev ready_there : ℕ → Bool
+  ready_there j = ready_from list given.vars (position_in given.positions j)
 
   -- a pick that is refused leaves the state as it is
   pub refused_is : {number : ℕ} → refusal (pick_tests (narrow list) s p) ≡ number → eqb number 0 ≡ false
@@ -47,7 +47,7 @@ module _ (list : List ℕ) (given : State) (p : Pick) where
   unfolding judge
   absent_is past = refused_is (rw (le-leb _ _ past)) refl
 
-  module _ {all : List Bool} (is : all ≡ changed (λ j was. judged j) (min given.n max_stations) (replicate max_stations false)) where
+  module _ {all : List Bool} (is : all ≡ changed (λ j was. ready_there j) (min given.n max_stations) (replicate max_stations false)) where
     ready_here : (j : ℕ) → get_or all j false ≡ ready (narrow list) s j
     ready_here = ready_known (narrow list) s (min-le_right given.n max_stations) is
 
@@ -72,19 +72,26 @@ module _ (list : List ℕ) (given : State) (p : Pick) where
         (some, refused_is (pick_told (narrow list) s p ∙ rw (← is, some)) some)
 
     -- the turn is the rules'
-    lowest_here : each (λ j. yields_to (judged j) (priority_in given.priorities p.station) (priority_in given.priorities j)) (min given.n max_stations)
+    lowest_here : each (λ j. yields_to (ready_there j) (priority_in given.priorities p.station) (priority_in given.priorities j)) (min given.n max_stations)
         ≡ lowest (narrow list) s p.station
     unfolding ready lowest
     lowest_here = each_same _ _ (min given.n max_stations) (λ j l. rw (readiness_here (narrow list) s j l))
 
-    -- and of one that is ready by its turn and the reset
+    -- and so is the refusal of a pick, by the number that its readiness tells
+    pub judged : {number : ℕ} {turn : Bool} → number ≡ (told (readiness (narrow list) s p.station)).number
+        → turn ≡ each (λ j. yields_to (ready_there j) (priority_in given.priorities p.station) (priority_in given.priorities j)) (min given.n max_stations)
+        → (if eqb number 0 then refusal ((not turn refuses TURN at 0) ∷ (ltb given.b p.reset refuses RESET at 0) ∷ []) else number)
+        ≡ refusal (pick_tests (narrow list) s p)
+    judged tells turn = rw (tells, turn ∙ lowest_here) (sym (pick_told (narrow list) s p))
+
+    -- of a station that is ready, by its turn and the reset
     pub refused_after : p.station < min given.n max_stations → get_or all p.station false ≡ true → {turn : Bool}
-        → turn ≡ each (λ j. yields_to (judged j) (priority_in given.priorities p.station) (priority_in given.priorities j)) (min given.n max_stations)
+        → turn ≡ each (λ j. yields_to (ready_there j) (priority_in given.priorities p.station) (priority_in given.priorities j)) (min given.n max_stations)
         → refusal (pick_tests (narrow list) s p) ≡ refusal ((not turn refuses TURN at 0) ∷ (ltb given.b p.reset refuses RESET at 0) ∷ [])
     unfolding ready
     refused_after l is_ready turn =
         let none = (ready_number (readiness (narrow list) s p.station)).1 (sym (ready_here p.station) ∙ is_ready) in
-        pick_told (narrow list) s p ∙ rw (none, turn ∙ lowest_here)
+        sym (judged (sym none) turn)
 
     -- what all eight become is what those become that the list has, where one that is not picked and not ready stays as it is
     all_changed : {A : Type 0} (f : Bool → Bool → A → A) (xs : List A) (d : A) → ((x : A) → f false false x ≡ x) → p.station < min given.n max_stations

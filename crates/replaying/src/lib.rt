@@ -22,7 +22,9 @@ pub fn replay(
 {
     let start = first as usize;
     for i in start..start + count as usize {
-        picking::pick(list, state, Pick::at(log, i))?;
+        if let Err(refusal) = picking::pick(list, state, Pick::at(log, i)) {
+            return Err(refusal);
+        }
     }
     Ok(())
 }

@@ -82,7 +82,12 @@ impl Calls for State {
     }
 
     fn undo(self, list: &[u8], log: &[u8], kept: &[u8]) -> Outcome {
-        answered(undo::undone(list, &self, log, kept), self)
+        let mut outcome = Outcome {
+            number: 0,
+            state: self,
+        };
+        outcome.number = Refusal::told(undo::undo(list, &mut outcome.state, log, kept));
+        outcome
     }
 }
 

@@ -6,16 +6,16 @@ ghost use Rattle.rules.specs.Kept.{kept_offset, kept_state, kept_right};
 ghost use Rattle.rules.specs.Undo as rules;
 ghost use Rattle.record.specs.Refusals.{told_number};
 ghost use Rattle.state.specs.View.{as_state};
-ghost use Rattle.run.specs.View.{as_answer};
 
 use crate::begin;
 use record::{Record, Refusal};
 use state::State;
 
-// The state before the last step.
-pub(crate) fn undone(list: &[u8], state: &State, log: &[u8], kept: &[u8]) -> Result<State, Refusal>
-    requires { state.now.b < 256 }
-    ensures { record { number = told_number result; state = as_answer result (as_state state.now) } ≡ rules.undo list.now (as_state state.now) (record { log = log.now; kept = kept.now }) }
+// Takes the last step back, or refuses and leaves the state as it was. Its copies of the state have a frame of their own.
+#[inline(never)]
+pub(crate) fn undo(list: &[u8], state: &mut State, log: &[u8], kept: &[u8]) -> Result<(), Refusal>
+    requires { state.old.b < 256 }
+    ensures { record { number = told_number result; state = as_state state.new } ≡ rules.undo list.now (as_state state.old) (record { log = log.now; kept = kept.now }) }
 {
     let mut back = nearest(list, state, log, kept)?;
     let target = state.m - 1;
@@ -25,7 +25,8 @@ pub(crate) fn undone(list: &[u8], state: &State, log: &[u8], kept: &[u8]) -> Res
         return Err(Refusal::Log);
     }
     back.m = target;
-    Ok(back)
+    *state = back;
+    Ok(())
 }
 
 // The state that a replay begins with, that in a kept place or that of the start records; or the first of the tests before it that refuses.

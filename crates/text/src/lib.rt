@@ -68,7 +68,8 @@ impl Text {
     pub fn signed(self, p: i16) -> Text
         ensures { text_of result ≡ take max_line (text_of self ++ signed_of p) }
     {
-        self.words(itoa::Buffer::new().format(p).as_bytes())
+        let signed = if p < 0 { self.put(b'-') } else { self };
+        signed.words(itoa::Buffer::new().format(p.unsigned_abs()).as_bytes())
     }
 }
 

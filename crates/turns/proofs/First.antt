@@ -32,6 +32,9 @@ module _ (ready : ℕ → Bool) (z : ℕ → ℤ) where
   abbrev pub before : ℕ → Option ℕ → Bool
   before j found = unwrap_or (option_map (λ i. lt_z (z j) (z i)) found) true
 
+  pub sought_none : Sought 0 None
+  sought_none = below_none _
+
   pub sought_kept : (j : ℕ) (found : Option ℕ) → Sought j found → (ready j && before j found) ≡ false → Sought (j + 1) found
   sought_kept j None none off = below_more _ j none (by_test (ready j) (λ r. absurd (false≢true (sym off ∙ rw r))) (λ r. r))
   sought_kept j (Some found) h off =

@@ -1,13 +1,14 @@
-// The pick order, of what is known of the stations: which are ready, and their priorities.
+// The pick order, of what is known of the stations: which are ready, their priorities, and what the picked one's readiness tells.
 #![tactic(auto)]
 
-ghost use Rattle.std.specs.Prelude.{◌≡◌, false, true, Option, Some, None, ◌&&◌, ◌||◌, ltb, get_or, option_map, unwrap_or, is_some};
+ghost use Rattle.std.specs.Prelude.{◌≡◌, false, true, Option, Some, None, ◌&&◌, ◌||◌, not, [], ◌∷◌, eqb, ltb, get_or, option_map, unwrap_or, is_some, if◌then◌else◌};
 ghost use Rattle.std.specs.Int.Signed.{lt_z};
-ghost use Rattle.rules.specs.Words.{first};
+ghost use Rattle.rules.specs.Words.{first, ◌refuses◌at◌, refusal};
+ghost use Rattle.rules.specs.Names.{TURN, RESET};
 ghost use Rattle.rules.specs.State.{priority_in};
 ghost use Rattle.rules.specs.Turn.{yields_to, lowest_of};
 
-use record::entry;
+use record::{Record, entry};
 
 // Whether none of n stations is ready and has a lower priority than station i.
 pub fn lowest_of(all: &[bool; 8], priorities: &[i16; 8], n: usize, i: usize) -> bool
@@ -45,4 +46,21 @@ fn comes_before(priorities: &[i16; 8], j: usize, found: Option<usize>) -> bool
         Some(i) => entry(priorities, j, 0) < entry(priorities, i, 0),
         None => true,
     }
+}
+
+// What refuses the pick of a station of the list: what its readiness tells, 0 where it is ready; then that it is not lowest, and that the
+// reset is above b. 0 where nothing does.
+pub fn pick_refusal(told: u8, lowest: bool, above: bool) -> u8
+    ensures { result ≡ (if eqb told 0 then refusal ((not lowest refuses TURN at 0) ∷ (above refuses RESET at 0) ∷ []) else told) }
+{
+    if told != 0 {
+        return told;
+    }
+    if !lowest {
+        return Record::TURN;
+    }
+    if above {
+        return Record::RESET;
+    }
+    0
 }

@@ -10,7 +10,8 @@ use record::Record;
 use state::State;
 
 // The state that the part begins with, where it is sound against the list, has as many steps as its place says and has b for its largest
-// reset. In a part that is cut off there is none.
+// reset. In a part that is cut off there is none. Its copies of the state have a frame of their own.
+#[inline(never)]
 pub fn state(list: &[u8], part: &[u8], b: u8, place: u16) -> Option<State>
     ensures { option_map as_state result ≡ (if usable list.now part.now b place then Some (recalled part.now) else None) }
 {
@@ -22,10 +23,9 @@ pub fn state(list: &[u8], part: &[u8], b: u8, place: u16) -> Option<State>
         && state.m as usize == Record::KEPT_EVERY as usize * place as usize
         && state.b == b
     {
-        Some(state)
-    } else {
-        None
+        return Some(state);
     }
+    None
 }
 
 // Whether there is one.

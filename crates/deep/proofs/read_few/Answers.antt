@@ -39,13 +39,13 @@ loop-place-preserved c =
       | in-Into w ↦ record {
         below = omega arith;
         long = rw (w.around-is, length-set) loop.invariant.long;
-        found = rw (w.part-is, w.around-is, w.open-is, around_more loop.«open» loop.around _ (omega (arith, loop.invariant.long)), w.grown.ensures)
+        found = rw (w.part-is, w.around-is, w.open-is, around_more loop.«open» loop.around _ (omega (arith, loop.invariant.long)))
             (turn_open _ _ _ _ _ taken loop.invariant.found _ c.stride.ensures _ w.in-Into.is);
       }
       | in-Out+else-open-eq0 w ↦ record {
         below = omega arith;
         long = rw w.around-is loop.invariant.long;
-        found = rw (w.part-is, w.around-is, w.open-is)
+        found = rw (w.part-is, w.around-is, w.open-is, w.grown-part.ensures, w.opened.ensures)
             (turn_close _ _ _ _ _ taken loop.invariant.found _ c.stride.ensures _ _ w.in-Out.is
             (around_fewer loop.«open» loop.around w.if-open-eq0.false));
       }

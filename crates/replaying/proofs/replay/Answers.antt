@@ -3,7 +3,6 @@ use mathlib.Core.Path.{◌≡◌, refl, sym, ap, ◌∙◌}
 use Prim.Native.Nat.{◌+◌, ◌-◌}
 use native.Mathlib.Omega.{arith}
 use borrow.Author.Rules.{rules}
-use Rattle.std.specs.Prelude.{Err}
 use Rattle.state.specs.View.{as_state}
 use Rattle.laws.specs.Narrow.{narrow}
 use Rattle.picking.specs.Took.{picked}
@@ -12,20 +11,19 @@ use Rattle.replaying.specs.Replayed.{took_from}
 use Rattle.replaying.proofs.Records.{from_taken, from_refused}
 use Rattle.replaying.proofs.replay.Goals as goal
 
-pub returns-in_err-pick : goal.returns-in_err-pick
-returns-in_err-pick c =
+pub returns-in-Err : goal.returns-in-Err
+returns-in-Err c =
     let a = c.args in
     let at = c.loop-i in
-    let told : c.from_residual.result ≡ Err c.in_err-pick.field-0.0 = search rules in
-    rw told (from_refused a.list.now a.log.now at.i (as_state at.state) (c.in_err-pick.ensures ∙ ap (picked (narrow a.list.now) (as_state at.state)) c.at.ensures)
-    {count = a.first + a.count - (at.i + 1)} (omega arith) (not_none c.in_err-pick.field-0.0) ∙ sym at.invariant)
+    from_refused a.list.now a.log.now at.i (as_state at.state) (c.in-Err.ensures ∙ ap (picked (narrow a.list.now) (as_state at.state)) (search rules))
+    {count = a.first + a.count - (at.i + 1)} (omega arith) (not_none c.in-Err.refusal) ∙ sym at.invariant
 
 pub loop-i-preserved : goal.loop-i-preserved
 loop-i-preserved c =
     let a = c.args in
     let at = c.loop-i in
     at.invariant ∙ sym (from_taken a.list.now a.log.now at.i (as_state at.state)
-    (c.in_ok-pick.ensures ∙ ap (picked (narrow a.list.now) (as_state at.state)) c.at.ensures) (omega arith) (omega arith) refl)
+    (c.in_default.ensures ∙ ap (picked (narrow a.list.now) (as_state at.state)) (search rules)) (omega arith) (omega arith) refl)
 
 pub returns : goal.returns
 unfolding took_from

@@ -20,9 +20,9 @@ returns-then-state-b c =
       eq-eqb _ _ c.if-state-b.true,
     )
 
-pub returns-else-sound : goal.returns-else-sound
+pub returns : goal.returns
 unfolding usable
-returns-else-sound c =
+returns c =
     let there = sym c.zeros.ensures ∙ c.if-not-zeros.false in
     elim c.else-sound.branch [
       | else-sound-via-then-sound+then-state-place+else-state-b w ↦ rw (

@@ -1,4 +1,4 @@
--- `run::undo::undone` meets its contract. Assumes nothing.
+-- `run::undo::undo` meets its contract. Assumes nothing.
 use Prim.Native.Nat.{ℕ, ◌+◌, ◌-◌, ◌*◌, ◌<◌}
 use mathlib.Core.Path.{◌≡◌, sym, ap, ◌∙◌}
 use mathlib.Core.List.{List}
@@ -23,8 +23,8 @@ use Rattle.picking.proofs.Refused.{not_none}
 use Rattle.replaying.specs.Replayed.{took_from, took_of, as_took}
 use Rattle.run.proofs.Judged.{told_err, told_ok}
 use Rattle.run.proofs.Replays.{counted, near_n, near_b, near_took, undo_took}
-use Rattle.run.proofs.undo.undone.Goals as goal
-use Rattle.run.proofs.undo.undone.Goals.{In_ok-back}
+use Rattle.run.proofs.undo.undo.Goals as goal
+use Rattle.run.proofs.undo.undo.Goals.{In_ok-back}
 
 -- where the tests before the replay do not refuse
 passed : (c : In_ok-back) → let a = c.args in
