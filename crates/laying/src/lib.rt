@@ -13,9 +13,7 @@ use record::Record;
 
 mod put;
 
-// One record of the file: what is laid for it is put before what was laid last. In line, since build takes a quarter more instructions where it is
-// a call for each record, and an eighth more where `Laying::take` is one.
-#[inline(always)]
+// One record of the file: what is laid for it is put before what was laid last.
 #[tactic(auto, unfolding(crate::specs::Laid::lay_record))]
 fn lay_record(r: Record, laying: Laying, loops: &[u16], list: &mut [u8]) -> Laying
     ensures state { as_laying result ≡ (lay_record loops.now (as_record r) (record { state = as_laying laying; buffer = list.old })).state }
@@ -54,8 +52,7 @@ fn lay_inits(stations: u8, starts: [u16; 8], place: u16, list: &mut [u8])
     }
 }
 
-// A whole list of so many records and stations. Its rows have a frame of their own, so that they take no stack while a file is checked before it.
-#[inline(never)]
+// A whole list of so many records and stations.
 #[tactic(auto, unfolding(crate::specs::Laid::laid_out))]
 pub fn lay_out(file: &[u8], total: u16, stations: u8, list: &mut [u8])
     ensures { list.new ≡ laid_out file.now total stations list.old }

@@ -144,7 +144,6 @@ impl Laying {
     }
 
     // The layout after a record of this kind.
-    #[inline(always)]
     #[tactic(auto, unfolding(crate::specs::Layout::after_kind))]
     pub fn take(self, kind: u8, loops: &[u16]) -> Laying
         ensures { as_laying result ≡ after_kind loops.now kind (as_laying self) }

@@ -104,7 +104,8 @@ fn lays_one(kind: u8) -> bool
     )
 }
 
-// The loops of a file whose first record stands at a place of the list.
+// The loops of a file whose first record stands at a place of the list. The row that it fills has a frame of its own.
+#[inline(never)]
 pub fn find(file: &[u8], place: u16) -> Loops
     ensures found { result.found ≡ (seek_records (records file.now) (nothing_sought place)).seeking.found }
     ensures places { result.places ≡ (seek_records (records file.now) (nothing_sought place)).places }
